@@ -1,0 +1,4 @@
+pub mod Below
+pub mod Questions
+pub mod Shape
+pub mod View
