@@ -15,6 +15,7 @@ pub use fronts::front;
 pub use fronts::holds;
 pub use fronts::is_newer;
 pub use fronts::last_term;
+pub use search::last_index;
 pub use search::last_of;
 pub use search::last_value;
 pub use search::zone_stamp;

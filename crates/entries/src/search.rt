@@ -2,7 +2,7 @@ ghost use mathlib.Core.Path.{_≡_};
 ghost use Prim.Native.Nat.{ℕ, _≤_};
 ghost use lib.ListN.{length};
 ghost use Rattle.std.specs.Options.{Cases};
-ghost use Rattle.entries.specs.Search.{matches, lastOf, lastValue, zoneStamp};
+ghost use Rattle.entries.specs.Search.{matches, lastOf, indexOf, lastValue, zoneStamp};
 use crate::entry::Entry;
 use crate::entry::Sought;
 use crate::entry::Stamp;
@@ -34,6 +34,18 @@ pub fn last_of<V: RecordKind>(log: &[Entry<V>], sought: Sought) -> Option<(u16, 
         }
     }
     found
+}
+
+// The index of the last entry that is sought, counted from 1, or 0.
+pub fn last_index<V: RecordKind>(log: &[Entry<V>], sought: Sought) -> u16
+    requires { ⌜ length (now log) ≤ 4096 ⌝ }
+    ensures value { λ r. ⌜ r ≡ indexOf (lastOf sought (now (log .entry))) ⌝ }
+    ensures bound { λ r. ⌜ r ≤ length (now (log .entry)) ⌝ }
+{
+    match last_of(log, sought) {
+        Some((i, _)) => i,
+        None => 0,
+    }
 }
 
 // The value of the star's last entry.

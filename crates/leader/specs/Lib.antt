@@ -1,0 +1,5 @@
+pub mod Corrections
+pub mod Faults
+pub mod Reads
+pub mod Sessions
+pub mod Steps
