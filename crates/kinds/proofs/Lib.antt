@@ -1,3 +1,5 @@
+pub mod BrightnessLaws
 pub mod Codes
 pub mod PlaceLaws
-pub mod Same
+pub mod SameMagnitude
+pub mod SamePlace

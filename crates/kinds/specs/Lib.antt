@@ -1,2 +1,4 @@
+pub mod Brightness
 pub mod Bytes
+pub mod Numbers
 pub mod Place

@@ -12,22 +12,19 @@ use Rattle.std.specs.declared.option.Option.{Option}
 use Rattle.std.specs.declared.option.Option.the-variants.{Some, None}
 use Rattle.kinds.specs.declared.place.Place.{Place}
 use Rattle.kinds.specs.Bytes.{le16, le32, at16, at32}
+use Rattle.kinds.specs.Numbers.{eqZ, lawfulYear}
 
 -- each number of the place fits its type
 abbrev pub placeFits : Place → Type 0
 placeFits p = (p .ascension < 2 ^ 32) × SFits w32 (p .declination) × SFits w16 (p .«motion_ra») × SFits w16 (p .«motion_dec») × (p .year < 2 ^ 16)
 
--- from -90 to 90 degrees, in thousandths of a second of arc
+-- a declination from -90 to 90 degrees, in thousandths of a second of arc
 abbrev pub lawfulDeclination : ℤ → Bool
 lawfulDeclination d = leZ (negsuc 323999999) d && leZ d (pos 324000000)
 
--- from -20,000 to 20,000
+-- a motion from -20,000 to 20,000
 abbrev pub lawfulMotion : ℤ → Bool
 lawfulMotion m = leZ (negsuc 19999) m && leZ m (pos 20000)
-
--- from 1900 to 2100
-abbrev pub lawfulYear : ℕ → Bool
-lawfulYear y = leb 1900 y && leb y 2100
 
 -- each number of the place is in its range
 abbrev pub lawfulPlace : Place → Bool
@@ -54,10 +51,6 @@ placeParsed b = cond (placeEndsInZeros b) (Some (placeAt b)) None
 -- the place of sixteen zero bytes
 abbrev pub blankPlace : Place
 blankPlace = record { ascension = 0; declination = pos 0; «motion_ra» = pos 0; «motion_dec» = pos 0; year = 0 }
-
--- whether two whole numbers are one
-abbrev pub eqZ : ℤ → ℤ → Bool
-eqZ a b = leZ a b && leZ b a
 
 -- whether two places are one
 abbrev pub samePlace : Place → Place → Bool

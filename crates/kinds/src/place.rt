@@ -1,4 +1,6 @@
+ghost use mathlib.Core.Path.{_≡_};
 ghost use mathlib.Core.Bool.{true};
+ghost use Rattle.kinds.specs.Numbers.{eqZ};
 ghost use Rattle.kinds.specs.Place.{placeFits, lawfulPlace, placeBytes, placeParsed, blankPlace, samePlace};
 use crate::kind::RecordKind;
 
@@ -11,6 +13,20 @@ pub struct Place {
     pub motion_ra: i16,
     pub motion_dec: i16,
     pub year: u16,
+}
+
+// Whether two angles are one.
+fn same_angle(a: i32, b: i32) -> bool
+    ensures { λ r. ⌜ r ≡ eqZ a b ⌝ }
+{
+    a == b
+}
+
+// Whether two motions are one.
+fn same_motion(a: i16, b: i16) -> bool
+    ensures { λ r. ⌜ r ≡ eqZ a b ⌝ }
+{
+    a == b
 }
 
 pub impl RecordKind for Place as PlaceKind {
@@ -97,9 +113,9 @@ pub impl RecordKind for Place as PlaceKind {
 
     fn same(self, other: Place) -> bool {
         (self.ascension == other.ascension)
-            & (self.declination == other.declination)
-            & (self.motion_ra == other.motion_ra)
-            & (self.motion_dec == other.motion_dec)
+            & same_angle(self.declination, other.declination)
+            & same_motion(self.motion_ra, other.motion_ra)
+            & same_motion(self.motion_dec, other.motion_dec)
             & (self.year == other.year)
     }
 }

@@ -34,6 +34,6 @@ pub impl VoteRule for Majority as MajorityRule {
     }
 
     fn enough_to_elect(self, set: u8) -> bool {
-        set_size(self.copies, set) > self.copies / 2
+        self.enough_to_commit(set)
     }
 }

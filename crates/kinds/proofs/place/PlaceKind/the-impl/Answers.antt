@@ -1,5 +1,5 @@
 use Rattle.kinds.proofs.PlaceLaws.{place-written}
-use Rattle.kinds.proofs.Same.{decides-place}
+use Rattle.kinds.proofs.SamePlace.{decides-place}
 use Rattle.kinds.proofs.place.PlaceKind.the-impl.Needs as need
 
 pub written-back-law : need.written-back-law

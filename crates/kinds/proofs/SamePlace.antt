@@ -1,4 +1,4 @@
--- The tests that say whether two values are one.
+-- The tests that say whether two whole numbers, and two places, are one.
 use mathlib.Core.Path.{_≡_, sym, ap, _∙_}
 use native.Mathlib.Omega.{arith}
 use lib.Dec.{eqb}
@@ -10,7 +10,8 @@ use mir.Val.{SFits, toZ, ofZ}
 use Rattle.std.proofs.shelf.Signed.{toZ-ofZ}
 use Rattle.std.proofs.shelf.Ways.{tells, decides-and, decides-like, decides-eqb, same-from-decides}
 use Rattle.kinds.specs.declared.place.Place.{Place}
-use Rattle.kinds.specs.Place.{eqZ, samePlace}
+use Rattle.kinds.specs.Numbers.{eqZ}
+use Rattle.kinds.specs.Place.{samePlace}
 
 pub decides-eqZ : (a b : ℤ) → Decides (eqZ a b) (a ≡ b)
 decides-eqZ (pos a) (pos b) = (λ h. ap pos (grind (arith, tells)), λ e. grind (arith, tells))
