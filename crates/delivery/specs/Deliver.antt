@@ -17,8 +17,8 @@ use Rattle.state.specs.declared.fault.ServiceFault.{ServiceFault}
 use Rattle.state.specs.declared.fault.ServiceFault.the-variants.{Memory, NoSuch}
 use Rattle.state.specs.Memory.{tableFits, taken, putAt}
 use Rattle.state.specs.Parts.{withTable}
-use Rattle.delivery.specs.declared.deliver.Effect.{Effect}
-use Rattle.delivery.specs.declared.deliver.Effect.the-variants.{Done, Dropped, Answered}
+use Rattle.delivery.specs.declared.step.Effect.{Effect}
+use Rattle.delivery.specs.declared.step.Effect.the-variants.{Done, Dropped, Answered}
 use Rattle.delivery.specs.declared.react.Reaction.{Reaction}
 use Rattle.delivery.specs.declared.react.Reaction.the-variants.{Sends, Answers, Ends}
 use Rattle.delivery.specs.Kinds.{atReadRequest, atCorrectionRequest, atCopyRead, atLeaderRead, atCorrection, atInstalled, atLeaderReply, atCopyReply, atCorrectionReply, atAnswer}
@@ -29,7 +29,7 @@ module _ {V R : Type 0} where
   kept es p = (p .0, es, p .1)
 
   -- the message does what its kind says
-  abbrev pub react : V → (V → Bool) → (V → V → Bool) → Service R → List (Entry V) → Message V → Body → Service R × List (Entry V) × Result (Reaction V) ServiceFault
+  unfoldable pub react : V → (V → Bool) → (V → V → Bool) → Service R → List (Entry V) → Message V → Body → Service R × List (Entry V) × Result (Reaction V) ServiceFault
   react blank lawful alike s es m bodies.ReadRequest = kept es (atReadRequest s m)
   react blank lawful alike s es m bodies.CorrectionRequest = kept es (atCorrectionRequest s m)
   react blank lawful alike s es m (bodies.CopyRead r i) = kept es (atCopyRead alike s es m r i)

@@ -1,6 +1,6 @@
 // The step deliver: one message is taken from the table and does what its kind says.
-mod deliver;
+mod step;
 mod react;
 
-pub use deliver::Effect;
-pub use deliver::deliver;
+pub use step::Effect;
+pub use step::deliver;
