@@ -1,7 +1,7 @@
 use borrow.Author.Needs.{needs}
 use mathlib.Core.Path.{refl}
 use Rattle.std.proofs.shelf.Results.{err-from-errBy}
-use Rattle.requests.proofs.client.again.Needs as need
+use Rattle.requests.proofs.repeat.again.Needs as need
 
 pub post-requires : need.post-requires
 post-requires g c κs = c .if-not-fits .ensures tt .means refl
