@@ -8,6 +8,7 @@ mod search;
 pub use compare::same_entries;
 pub use compare::same_entry;
 pub use entry::Entry;
+pub use entry::EntryClone;
 pub use entry::Sought;
 pub use entry::Stamp;
 pub use fronts::first_gap;

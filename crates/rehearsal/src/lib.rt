@@ -5,6 +5,8 @@ mod writing;
 
 pub use reading::decode;
 pub use records::answer;
+pub use records::filled;
 pub use records::rehearse;
+pub use records::rehearse_input;
 pub use writing::encode;
 pub use writing::fault_record;

@@ -11,6 +11,7 @@ pub use choice::choose;
 pub use fault::RelayFault;
 pub use message::Body;
 pub use message::Message;
+pub use message::MessageClone;
 pub use message::Outcome;
 pub use rows::Relay;
 pub use rows::Row;
