@@ -1,6 +1,6 @@
 -- Which copy a reading is sent to.
 use mathlib.Core.Bool.{Bool, cond}
-use Prim.Native.Nat.{ℕ, zero, suc, _-_}
+use Prim.Native.Nat.{ℕ, zero, suc, _+_, _-_, _%_}
 use Rattle.std.specs.declared.option.Option.{Option}
 use Rattle.std.specs.declared.option.Option.the-variants.{Some, None}
 use Rattle.votes.specs.Sets.{has}
@@ -18,3 +18,7 @@ orElse (Some x) b = Some x
 -- the lowest copy in the set at or above the turn, else the lowest in the set
 abbrev pub chosen : ℕ → ℕ → ℕ → Option ℕ
 chosen copies set turn = orElse (lowestFrom set turn (copies - turn)) (lowestFrom set 0 copies)
+
+-- the turn moves past the copy that was chosen
+abbrev pub turnAfter : ℕ → ℕ → ℕ
+turnAfter copies r = (r + 1) % copies

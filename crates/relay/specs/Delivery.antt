@@ -1,7 +1,7 @@
 -- What each message does at the relay: the relay after it, and the message that is sent, or why it is dropped.
 use mathlib.Core.Bool.{Bool, true, false, cond, not, _&&_}
 use mathlib.Core.List.{List}
-use Prim.Native.Nat.{ℕ, _+_, _%_}
+use Prim.Native.Nat.{ℕ, _+_}
 use lib.Dec.{eqb}
 use lib.ListN.{getD, set}
 use Rattle.std.specs.declared.option.Option.{Option}
@@ -19,7 +19,7 @@ use Rattle.relay.specs.declared.rows.Row.{Row}
 use Rattle.relay.specs.declared.rows.Relay.{Relay}
 use Rattle.relay.specs.declared.fault.RelayFault.{RelayFault}
 use Rattle.relay.specs.declared.fault.RelayFault.the-variants.{Closed, OtherSession, NumbersUsedUp}
-use Rattle.relay.specs.Choice.{chosen}
+use Rattle.relay.specs.Choice.{chosen, turnAfter}
 use Rattle.relay.specs.Rows.{unsettledRow, settledRow, stampAlike}
 
 -- the row of a star's zone
@@ -62,7 +62,7 @@ module _ {V : Type 0} where
   -- a copy read of the row's index to the copy, and the turn moves past it; without a copy the leader is asked
   abbrev pub readAt : ℕ → Relay → Message V → ℕ → Option ℕ → Relay × Result (Message V) RelayFault
   readAt copies s m index None = (s, Ok (sent m (s .session) LeaderRead))
-  readAt copies s m index (Some r) = (withTurn s ((r + 1) % copies), Ok (sent m (s .session) (CopyRead r index)))
+  readAt copies s m index (Some r) = (withTurn s (turnAfter copies r), Ok (sent m (s .session) (CopyRead r index)))
 
   abbrev pub readRequest : ℕ → Relay → Message V → Relay × Result (Message V) RelayFault
   readRequest copies s m =
