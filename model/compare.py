@@ -36,11 +36,11 @@ def raw_input(name, seed):
 
 def first_difference(wanted, got):
     """The number of the first record that differs."""
-    ours, theirs = records(wanted), records(got)
-    for number, (a, b) in enumerate(zip(ours, theirs)):
+    wanted_records, got_records = records(wanted), records(got)
+    for number, (a, b) in enumerate(zip(wanted_records, got_records)):
         if a != b:
             return number
-    return min(len(ours), len(theirs))
+    return min(len(wanted_records), len(got_records))
 
 
 def show(title, data, number):
