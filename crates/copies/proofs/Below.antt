@@ -20,6 +20,9 @@ and-false : (a : Bool) → (a && false) ≡ false
 and-false true = refl
 and-false false = refl
 
+pub no-true : false ≡ true → ⊥
+no-true e = let z : _≡_ {A = ℕ} 0 1 = cc in omega arith
+
 pub all-more : (p : ℕ → Bool) (i : ℕ) → allBelow p i ≡ true → p i ≡ true → allBelow p (i + 1) ≡ true
 all-more p i a e = rw (add-one, a, e)
 

@@ -11,7 +11,7 @@ use Rattle.std.specs.declared.option.Option.{Option}
 use Rattle.std.specs.declared.option.Option.the-variants.{Some, None}
 use Rattle.copies.specs.declared.logs.Logs.{Logs}
 use Rattle.copies.specs.Below.{allBelow}
-use Rattle.copies.specs.Shape.{countFits, ledWithin, shaped, Shaped}
+use Rattle.copies.specs.Shape.{countFits, ledWithin, shaped, SevenPlaces, Shaped}
 use Rattle.copies.proofs.Below.{all-each}
 
 led-means : (o : Option ℕ) (n : ℕ) → ledWithin o n ≡ true → (a : ℕ) → o ≡ Some a → a < n
@@ -27,13 +27,14 @@ module _ (l : Logs) (m : ℕ) (some : 3 ≤ l .copies) (few : l .copies ≤ 7) (
   pub shape-is : allBelow (countFits l) (l .copies) ≡ shaped l m
   shape-is = sym (rw (is-leb 3 (l .copies) some, is-leb (l .copies) 7 few, is-leb 1 (l .capacity) one, is-leb (l .capacity) 4096 small, is-leb (l .copies * l .capacity) m room, led))
 
-  pub shape-means : allBelow (countFits l) (l .copies) ≡ true → Shaped l m
-  shape-means t = record {
+  pub shape-means : SevenPlaces l → allBelow (countFits l) (l .copies) ≡ true → Shaped l m
+  shape-means p t = record {
     some = some;
     few = few;
     one = one;
     small = small;
     room = room;
+    places = p;
     led = led-means (l .leader) (l .copies) led;
     inside = λ k h. leb-true _ _ (parts k h .0);
     knows = λ k h. leb-true _ _ (parts k h .1)

@@ -3,7 +3,7 @@ use mathlib.Core.Path.{_≡_}
 use mathlib.Core.Bool.{Bool, true, _&&_}
 use Prim.Native.Nat.{ℕ, _*_, _<_, _≤_}
 use lib.Dec.{leb, ltb}
-use lib.ListN.{getD, replicate}
+use lib.ListN.{length, getD, replicate}
 use Rattle.std.specs.declared.option.Option.{Option}
 use Rattle.std.specs.declared.option.Option.the-variants.{Some, None}
 use Rattle.copies.specs.declared.logs.Logs.{Logs}
@@ -27,6 +27,11 @@ abbrev pub shaped : Logs → ℕ → Bool
 shaped l m =
     (leb 3 (l .copies) && leb (l .copies) 7) && ((leb 1 (l .capacity) && leb (l .capacity) 4096) && (leb (l .copies * l .capacity) m && (ledWithin (l .leader) (l .copies) && allBelow (countFits l) (l .copies))))
 
+-- the arrays have seven places, as every array of a program has its length
+pub record SevenPlaces (l : Logs) : Type 0 where
+  pub lengths-seven : length (l .lengths) ≡ 7
+  pub known-seven : length (l .known) ≡ 7
+
 -- the same, as the functions of this crate take it
 pub record Shaped (l : Logs) (m : ℕ) : Type 0 where
   pub some : 3 ≤ l .copies
@@ -36,4 +41,5 @@ pub record Shaped (l : Logs) (m : ℕ) : Type 0 where
   pub room : l .copies * l .capacity ≤ m
   pub led : (a : ℕ) → l .leader ≡ Some a → a < l .copies
   pub inside : (k : ℕ) → k < l .copies → getD (l .lengths) k 0 ≤ l .capacity
+  pub places : SevenPlaces l
   pub knows : (k : ℕ) → k < l .copies → getD (l .known) k 0 ≤ getD (l .lengths) k 0

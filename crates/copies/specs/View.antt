@@ -10,9 +10,11 @@ use Rattle.copies.specs.declared.logs.Logs.{Logs}
 abbrev pub logOf : {V : Type 0} → Logs → List (Entry V) → ℕ → List (Entry V)
 logOf l es r = take (getD (l .lengths) r 0) (drop (r * l .capacity) es)
 
--- what the log's rules speak of: each copy's log and known count, the present term and leader
+-- what the log's rules speak of: how many copies there are and what a log takes, each copy's log and known count, the
+-- present term and leader
 pub record View (V : Type 0) : Type 0 where
   pub copies : ℕ
+  pub capacity : ℕ
   pub log : ℕ → List (Entry V)
   pub known : ℕ → ℕ
   pub term : ℕ
@@ -20,4 +22,4 @@ pub record View (V : Type 0) : Type 0 where
 
 -- what the struct and the lent slice stand for; entries beyond a log's length do not show
 abbrev pub viewOf : {V : Type 0} → Logs → List (Entry V) → View V
-viewOf l es = record { copies = l .copies; log = logOf l es; known = λ r. getD (l .known) r 0; term = l .term; leader = l .leader }
+viewOf l es = record { copies = l .copies; capacity = l .capacity; log = logOf l es; known = λ r. getD (l .known) r 0; term = l .term; leader = l .leader }

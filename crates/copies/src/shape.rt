@@ -3,7 +3,7 @@ ghost use mathlib.Core.Bool.{true};
 ghost use Prim.Native.Nat.{ℕ, _+_, _*_, _<_, _≤_};
 ghost use lib.ListN.{length, getD};
 ghost use Rattle.copies.specs.Below.{allBelow};
-ghost use Rattle.copies.specs.Shape.{newLogs, countFits, ledWithin, shaped, Shaped};
+ghost use Rattle.copies.specs.Shape.{newLogs, countFits, ledWithin, shaped, SevenPlaces, Shaped};
 ghost use Rattle.copies.specs.View.{logOf};
 use crate::logs::Logs;
 use entries::Entry;
@@ -27,15 +27,18 @@ impl Logs {
     // Whether copy k knows at most its log, and its log does not pass the capacity.
     fn count_fits(&self, k: u8) -> bool
         requires { ⌜ k < 7 ⌝ }
-        ensures { λ r. ⌜ r ≡ countFits (now (self .entry)) k ⌝ }
+        ensures value { λ r. ⌜ r ≡ countFits (now (self .entry)) k ⌝ }
+        ensures places { λ _. ⌜ SevenPlaces (now (self .entry)) ⌝ }
     {
         let length = self.lengths[k as usize];
         (length <= self.capacity) & (self.known[k as usize] <= length)
     }
 
     fn counts_fit(&self) -> bool
-        requires { ⌜ now self .copies ≤ 7 ⌝ }
-        ensures { λ r. ⌜ r ≡ allBelow (countFits (now (self .entry))) (now (self .entry) .copies) ⌝ }
+        requires some { ⌜ 3 ≤ now self .copies ⌝ }
+        requires few { ⌜ now self .copies ≤ 7 ⌝ }
+        ensures value { λ r. ⌜ r ≡ allBelow (countFits (now (self .entry))) (now (self .entry) .copies) ⌝ }
+        ensures places { λ r. ⌜ (r ≡ true → SevenPlaces (now (self .entry))) ⌝ }
     {
         for k in 0..self.copies {
             if !self.count_fits(k) {

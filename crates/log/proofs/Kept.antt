@@ -7,7 +7,7 @@ use lib.Dec.{leb}
 use lib.ListN.{length, getD, set, take, drop}
 use mathlib.Core.Bool.{Bool, true, _&&_}
 use mathlib.Core.List.{List}
-use Rattle.std.proofs.shelf.Lists.{getD-set-same, getD-set-other, length-take}
+use Rattle.std.proofs.shelf.Lists.{getD-set-same, getD-set-other, length-take, length-set}
 use Rattle.std.proofs.shelf.Tests.{and-parts, leb-true}
 use Rattle.entries.specs.declared.entry.Entry.{Entry}
 use Rattle.entries.specs.Compare.{allAlike}
@@ -20,7 +20,7 @@ use Rattle.log.specs.Calls.{withKnown}
 either : (k r : ℕ) → (k ≡ r) ⊎ (k ≡ r → ⊥)
 either k r = grind arith
 
-module _ (l : Logs) (m r n : ℕ) (s : Shaped l m) (h : r < l .copies) (seven : length (l .known) ≡ 7) (b : n ≤ getD (l .lengths) r 0) where
+module _ (l : Logs) (m r n : ℕ) (s : Shaped l m) (h : r < l .copies) (b : n ≤ getD (l .lengths) r 0) where
   -- a known count raised within its log
   pub known-kept : Shaped (withKnown l r n) m
   known-kept = record {
@@ -30,9 +30,10 @@ module _ (l : Logs) (m r n : ℕ) (s : Shaped l m) (h : r < l .copies) (seven : 
     small = s .small;
     room = s .room;
     led = s .led;
+    places = record { lengths-seven = s .places .lengths-seven; known-seven = simp length-set (s .places .known-seven) };
     inside = s .inside;
     knows = λ k j. elim (either k r) [
-      | inl e ↦ omega (arith, ap (λ (x : ℕ). getD (set (l .known) r n) x 0) e, getD-set-same (l .known) r n 0 (omega (arith, s .few)), ap (λ (x : ℕ). getD (l .lengths) x 0) e)
+      | inl e ↦ omega (arith, ap (λ (x : ℕ). getD (set (l .known) r n) x 0) e, getD-set-same (l .known) r n 0 (omega (arith, s .few, s .places .known-seven)), ap (λ (x : ℕ). getD (l .lengths) x 0) e)
       | inr e ↦ omega (arith, getD-set-other (l .known) r k n 0 e, s .knows k j)
     ]
   }

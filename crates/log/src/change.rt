@@ -44,7 +44,7 @@ fn put_entry<V: RecordKind>(
 }
 
 // One entry more at the end of copy a's log; the answer is its index.
-pub fn append<V: RecordKind>(
+pub fn append_step<V: RecordKind>(
     logs: &mut Logs,
     entries: &mut [Entry<V>],
     a: u8,
@@ -75,7 +75,7 @@ fn next_entry<V: RecordKind>(led: &[Entry<V>], log: &[Entry<V>]) -> Option<(usiz
 
 // The leader's entry goes to copy r where r's log ends or has another term, and r's log then ends
 // there; the answer is its length.
-pub fn copy<V: RecordKind>(
+pub fn copy_step<V: RecordKind>(
     logs: &mut Logs,
     entries: &mut [Entry<V>],
     r: u8,
@@ -112,7 +112,7 @@ pub fn entry_known<V: RecordKind>(
 }
 
 // Copy r's known count rises to n, if lower, where its first n entries are the committed log's.
-pub fn rise<V: RecordKind>(
+pub fn rise_step<V: RecordKind>(
     logs: &mut Logs,
     entries: &[Entry<V>],
     r: u8,

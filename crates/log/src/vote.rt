@@ -11,7 +11,7 @@ use kinds::RecordKind;
 use votes::VoteRule;
 
 // Makes the candidate leader of the next term, which is the answer.
-pub fn elect<V: RecordKind, R: VoteRule>(
+pub fn elect_step<V: RecordKind, R: VoteRule>(
     rule: R,
     logs: &mut Logs,
     entries: &[Entry<V>],
@@ -37,7 +37,7 @@ pub fn elect<V: RecordKind, R: VoteRule>(
 }
 
 // Raises the leader's known count to n, which is the answer.
-pub fn commit<V: RecordKind, R: VoteRule>(
+pub fn commit_step<V: RecordKind, R: VoteRule>(
     rule: R,
     logs: &mut Logs,
     entries: &[Entry<V>],

@@ -1,6 +1,6 @@
 use native.Mathlib.Omega.{arith}
 use borrow.Author.Needs.{needs}
-use Rattle.log.proofs.change.copy.Needs as need
+use Rattle.log.proofs.change.copy_step.Needs as need
 
 pub put-entry-requires : need.put-entry-requires
 put-entry-requires g c κs =

@@ -1,7 +1,7 @@
 use native.Mathlib.Omega.{arith}
 use borrow.Author.Needs.{needs}
 use Rattle.log.proofs.Kept.{known-kept, held-within}
-use Rattle.log.proofs.change.rise.Needs as need
+use Rattle.log.proofs.change.rise_step.Needs as need
 
 pub returns : need.returns
 returns g c =
@@ -9,5 +9,5 @@ returns g c =
     let h = held-within (g .V·RecordKind .alike) l (c .args .entries .now) (c .args .r) (c .args .n) (c .if-not-holds-committed .ensures tt) in
     record {
       value = search needs;
-      shape = known-kept l _ (c .args .r) _ (c .pre .shape) (c .pre .copy) (search needs) (omega (arith, h, c .max .ensures, c .pre .shape .knows _ (c .pre .copy)))
+      shape = known-kept l _ (c .args .r) _ (c .pre .shape) (c .pre .copy) (omega (arith, h, c .max .ensures, c .pre .shape .knows _ (c .pre .copy)))
     }
