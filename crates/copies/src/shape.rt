@@ -78,6 +78,16 @@ impl Logs {
         self.counts_fit()
     }
 
+    // How many entries copy r's log has.
+    fn length_of(&self, n: usize, r: u8) -> usize
+        requires shape { ⌜ Shaped (now self) n ⌝ }
+        requires copy { ⌜ r < now self .copies ⌝ }
+        ensures value { λ x. ⌜ x ≡ getD (now (self .entry) .lengths) r 0 ⌝ }
+        ensures bound { λ x. ⌜ x ≤ now (self .entry) .capacity ⌝ }
+    {
+        self.lengths[r as usize] as usize
+    }
+
     // Copy r's log.
     pub fn log<'a, V: RecordKind>(&self, entries: &'a [Entry<V>], r: u8) -> &'a [Entry<V>]
         requires shape { ⌜ Shaped (now self) (length (now entries)) ⌝ }
@@ -87,7 +97,7 @@ impl Logs {
         ensures bound { λ x. ⌜ length (now x) ≤ 4096 ⌝ }
     {
         let at = r as usize * self.capacity as usize;
-        let n = self.lengths[r as usize] as usize;
+        let n = self.length_of(entries.len(), r);
         &entries[at..at + n]
     }
 

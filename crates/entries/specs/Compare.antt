@@ -5,10 +5,15 @@ use lib.Dec.{eqb}
 use Rattle.entries.specs.declared.entry.Entry.{Entry}
 
 module _ {V : Type 0} (alike : V → V → Bool) where
-  abbrev pub entryAlike : Entry V → Entry V → Bool
-  entryAlike a b =
-      eqb (a .term) (b .term) && eqb (a .stamp .session) (b .stamp .session) && eqb (a .stamp .number) (b .stamp .number) && eqb (a .client) (b .client)
+  -- the same but for the terms
+  abbrev pub contentAlike : Entry V → Entry V → Bool
+  contentAlike a b =
+      eqb (a .stamp .session) (b .stamp .session) && eqb (a .stamp .number) (b .stamp .number) && eqb (a .client) (b .client)
       && eqb (a .number) (b .number) && eqb (a .star) (b .star) && alike (a .value) (b .value)
+
+  -- the same in every field
+  abbrev pub entryAlike : Entry V → Entry V → Bool
+  entryAlike a b = eqb (a .term) (b .term) && contentAlike a b
 
   abbrev pub allAlike : List (Entry V) → List (Entry V) → Bool
   allAlike [] [] = true

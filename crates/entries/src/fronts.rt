@@ -1,5 +1,5 @@
 ghost use mathlib.Core.Path.{_≡_};
-ghost use Prim.Native.Nat.{ℕ, _≤_};
+ghost use Prim.Native.Nat.{ℕ, _<_, _≤_};
 ghost use lib.ListN.{length, take};
 ghost use Rattle.entries.specs.Fronts.{holdsFirst, lastTerm, newer, gap};
 use crate::compare::same_entries;
@@ -26,15 +26,22 @@ pub fn holds<V: RecordKind>(led: &[Entry<V>], log: &[Entry<V>], n: u16) -> bool
     same_entries(front(log, n), front(led, n))
 }
 
-// The term of the last entry, 0 of an empty log.
-pub fn last_term<V: RecordKind>(log: &[Entry<V>]) -> u16
+// The term of the entry that stands last among the first n, 0 for none.
+fn ending_term<V: RecordKind>(log: &[Entry<V>], n: usize) -> u16
+    requires { ⌜ n ≡ length (now log) ⌝ }
     ensures { λ r. ⌜ r ≡ lastTerm (now (log .entry)) ⌝ }
 {
-    let n = log.len();
     if n == 0 {
         return 0;
     }
     log[n - 1].term
+}
+
+// The term of the last entry, 0 of an empty log.
+pub fn last_term<V: RecordKind>(log: &[Entry<V>]) -> u16
+    ensures { λ r. ⌜ r ≡ lastTerm (now (log .entry)) ⌝ }
+{
+    ending_term(log, log.len())
 }
 
 // Whether the first log is newer: its last term is greater, or equal and it is longer.

