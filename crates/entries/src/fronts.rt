@@ -53,8 +53,8 @@ pub fn is_newer<V: RecordKind>(a: &[Entry<V>], b: &[Entry<V>]) -> bool
     (t < s) | ((s == t) & (b.len() < a.len()))
 }
 
-// The first place of the leader's log where the other ends or has another term, else its length.
-pub fn first_gap<V: RecordKind>(led: &[Entry<V>], log: &[Entry<V>]) -> usize
+// Goes along the leader's log up to the place where the other ends or has another term.
+fn parting<V: RecordKind>(led: &[Entry<V>], log: &[Entry<V>]) -> usize
     ensures value { λ r. ⌜ r ≡ gap (now (led .entry)) (now (log .entry)) ⌝ }
     ensures bound { λ r. ⌜ r ≤ length (now (led .entry)) ⌝ }
     ensures within { λ r. ⌜ r ≤ length (now (log .entry)) ⌝ }
@@ -68,4 +68,13 @@ pub fn first_gap<V: RecordKind>(led: &[Entry<V>], log: &[Entry<V>]) -> usize
         }
     }
     led.len()
+}
+
+// The first place of the leader's log where the other ends or has another term, else its length.
+pub fn first_gap<V: RecordKind>(led: &[Entry<V>], log: &[Entry<V>]) -> usize
+    ensures value { λ r. ⌜ r ≡ gap (now (led .entry)) (now (log .entry)) ⌝ }
+    ensures bound { λ r. ⌜ r ≤ length (now (led .entry)) ⌝ }
+    ensures within { λ r. ⌜ r ≤ length (now (log .entry)) ⌝ }
+{
+    parting(led, log)
 }

@@ -1,7 +1,7 @@
 use mathlib.Core.Path.{sym}
 use native.Mathlib.Omega.{arith}
 use Rattle.entries.proofs.Parting.{gap-ends, gap-all, gap-here, gap-more}
-use Rattle.entries.proofs.fronts.first_gap.Needs as need
+use Rattle.entries.proofs.fronts.parting.Needs as need
 
 pub returns-then-i-log : need.returns-then-i-log
 returns-then-i-log g c = record { value = sym (gap-ends (c .args .led .now) (c .args .log .now) (c .loop-i .i) (c .if-i-log .taken) (c .loop-i .inv .0)); bound = omega arith; within = c .loop-i .inv .1 }
