@@ -1,7 +1,7 @@
-use crate::texts::PlaceDisplay;
-use crate::texts::PlaceText;
-use crate::texts::SetDisplay;
-use crate::texts::SetText;
+use phrases::PlaceDisplay;
+use phrases::PlaceText;
+use phrases::SetDisplay;
+use phrases::SetText;
 use kinds::Place;
 use service::Call;
 use std::fmt;
