@@ -81,8 +81,13 @@ impl Client {
                 self.waiting = Waiting::Nothing;
                 Ok(answer)
             }
-            (Waiting::Correction { star: _ }, Answer::Correction { outcome: _, index: _ })
-                if number == self.number => {
+            (
+                Waiting::Correction { star: _ },
+                Answer::Correction {
+                    outcome: _,
+                    index: _,
+                },
+            ) if number == self.number => {
                 self.waiting = Waiting::Nothing;
                 Ok(answer)
             }
@@ -104,12 +109,7 @@ pub fn read_request<V: RecordKind>(client: u8, number: u16, star: u16) -> Messag
     }
 }
 
-pub fn correction_request<V: RecordKind>(
-    client: u8,
-    number: u16,
-    star: u16,
-    value: V,
-) -> Message<V>
+pub fn correction_request<V: RecordKind>(client: u8, number: u16, star: u16, value: V) -> Message<V>
     ensures { λ r. ⌜ r ≡ correctionRequest client number star value ⌝ }
 {
     Message {

@@ -37,7 +37,7 @@ module _ (l : Logs) (m : ℕ) (some : 3 ≤ l .copies) (few : l .copies ≤ 7) (
     places = p;
     led = led-means (l .leader) (l .copies) led;
     inside = λ k h. leb-true _ _ (parts k h .0);
-    knows = λ k h. leb-true _ _ (parts k h .1)
+    knows = λ k h. leb-true _ _ (parts k h .1);
   }
     where
       parts : (k : ℕ) → k < l .copies → (leb (getD (l .lengths) k 0) (l .capacity) ≡ true) × (leb (getD (l .known) k 0) (getD (l .lengths) k 0) ≡ true)

@@ -25,13 +25,7 @@ impl Logs {
     }
 
     // Whether copy r votes, and its log is newer than the candidate's.
-    fn objects<V: RecordKind>(
-        &self,
-        entries: &[Entry<V>],
-        candidate: u8,
-        voters: u8,
-        r: u8,
-    ) -> bool
+    fn objects<V: RecordKind>(&self, entries: &[Entry<V>], candidate: u8, voters: u8, r: u8) -> bool
         requires shape { ⌜ Shaped (now self) (length (now entries)) ⌝ }
         requires copy { ⌜ candidate < now self .copies ⌝ }
         requires voter { ⌜ r < now self .copies ⌝ }

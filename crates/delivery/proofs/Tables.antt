@@ -21,7 +21,6 @@ either true x y t p q = p
 either false x y t p q = q
 
 module _ {V R : Type 0} where
-
   pub react-table : (blank : V) (lawful : V → Bool) (alike : V → V → Bool) (s : Service R) (es : List (Entry V)) (m : Message V) (b : Body) →
       react blank lawful alike s es m b .0 .table ≡ s .table
   unfolding react

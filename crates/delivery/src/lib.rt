@@ -1,6 +1,6 @@
 // The step deliver: one message is taken from the table and does what its kind says.
-mod step;
 mod react;
+mod step;
 
 pub use step::Effect;
 pub use step::deliver;

@@ -4,6 +4,7 @@ ghost use lib.ListN.{length};
 ghost use Rattle.copies.specs.Shape.{Shaped};
 ghost use Rattle.delivery.specs.Kinds.{atReadRequest, atCorrectionRequest, atCopyRead, atLeaderRead, atCorrection, atInstalled, atLeaderReply, atCopyReply, atCorrectionReply, atAnswer};
 use client::Answer;
+use client::ClientFault;
 use entries::Entry;
 use entries::Stamp;
 use kinds::RecordKind;
@@ -12,7 +13,6 @@ use leader::LeaderFaultFromLog;
 use log::LogFault;
 use relay::Message;
 use relay::Outcome;
-use client::ClientFault;
 use state::Service;
 use state::ServiceFault;
 use state::ServiceFaultFromClient;
@@ -146,7 +146,8 @@ pub fn correction_reply<V: RecordKind, R: VoteRule>(
 ) -> Result<Reaction<V>, ServiceFault>
     ensures { λ x. ⌜ (now (s .exit), x) ≡ atCorrectionReply (now (s .entry)) (now (m .entry)) sequence outcome index holders stamp ⌝ }
 {
-    let sent = s.relay.correction_reply(m, sequence, outcome, index, holders, stamp)?;
+    let sent = s.relay
+        .correction_reply(m, sequence, outcome, index, holders, stamp)?;
     Ok(Reaction::Sends(sent))
 }
 

@@ -41,9 +41,13 @@ fn react_to<V: RecordKind, R: VoteRule>(
         Body::Installed => react::installed(s, entries, m.session),
         Body::LeaderReply => react::leader_reply(s, m),
         Body::CopyReply { copy: _, stamp } => react::copy_reply(s, m, stamp),
-        Body::CorrectionReply { sequence, outcome, index, holders, stamp } => {
-            react::correction_reply(s, m, sequence, outcome, index, holders, stamp)
-        }
+        Body::CorrectionReply {
+            sequence,
+            outcome,
+            index,
+            holders,
+            stamp,
+        } => { react::correction_reply(s, m, sequence, outcome, index, holders, stamp) }
         Body::ReadAnswer => react::answer(s, m.client, m.number, Answer::Reading(m.value)),
         Body::CorrectionAnswer { outcome, index } => {
             react::answer(s, m.client, m.number, Answer::Correction { outcome, index })

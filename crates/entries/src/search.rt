@@ -66,6 +66,9 @@ pub fn zone_stamp<V: RecordKind>(log: &[Entry<V>], zone: u8) -> Stamp
 {
     match last_of(log, Sought::Zone(zone)) {
         Some((_, e)) => e.stamp,
-        None => Stamp { session: 0, number: 0 },
+        None => Stamp {
+            session: 0,
+            number: 0,
+        },
     }
 }

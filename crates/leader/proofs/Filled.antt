@@ -18,12 +18,13 @@ module _ {X : Type 0} (f : ℕ → X) (xs : List X) (n : ℕ) where
   split k i h = grind arith
 
   pub filled-more : (i : ℕ) (x d : X) → Filled i d xs → i < n → x ≡ f i → Filled (i + 1) d (set xs i x)
-  filled-more i x d (l, h) b e =
-      (simp length-set l,
-      λ k j. elim (split k i j) [
-        | inl m ↦ getD-set-other xs i k x d (omega arith) ∙ h k m
-        | inr m ↦ rw m (getD-set-same xs i x d (omega arith) ∙ e)
-      ])
+  filled-more i x d (l, h) b e = (
+    simp length-set l,
+    λ k j. elim (split k i j) [
+      | inl m ↦ getD-set-other xs i k x d (omega arith) ∙ h k m
+      | inr m ↦ rw m (getD-set-same xs i x d (omega arith) ∙ e)
+    ],
+  )
 
   pub filled-all : (i : ℕ) (d : X) → Filled i d xs → n ≤ i → xs ≡ map f (counting 0 n)
   filled-all i d (l, h) b = fill-by-all f xs n d l (λ k j. h k (omega arith))

@@ -31,7 +31,10 @@ fn tell<V: RecordKind>(m: &Message<V>, sequence: u16, outcome: Outcome, index: u
             outcome,
             index,
             holders: 0,
-            stamp: Stamp { session: 0, number: 0 },
+            stamp: Stamp {
+                session: 0,
+                number: 0,
+            },
         },
         value: None,
     }
@@ -65,7 +68,10 @@ pub fn correction<V: RecordKind>(
     let Some(value) = lawful_value(m) else {
         return Ok(Some(tell(m, sequence, Outcome::Unlawful, 0)));
     };
-    let sought = Sought::Request { client: m.client, number: m.number };
+    let sought = Sought::Request {
+        client: m.client,
+        number: m.number,
+    };
     let index = entries::last_index(logs.log(entries, leader), sought);
     if index > logs.known[leader as usize] {
         return Err(LeaderFault::Uncommitted);
@@ -75,7 +81,10 @@ pub fn correction<V: RecordKind>(
     }
     let e = Entry {
         term: logs.term,
-        stamp: Stamp { session: m.session, number: sequence },
+        stamp: Stamp {
+            session: m.session,
+            number: sequence,
+        },
         client: m.client,
         number: m.number,
         star: m.star,

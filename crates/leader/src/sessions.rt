@@ -57,7 +57,10 @@ fn zone_row<V: RecordKind>(
             latest: 0,
             index: 0,
             holders: 0,
-            stamp: Stamp { session: 0, number: 0 },
+            stamp: Stamp {
+                session: 0,
+                number: 0,
+            },
         };
     }
     Row {
@@ -99,5 +102,9 @@ pub fn open_session<V: RecordKind>(
     lead.part = lead.part + 1;
     lead.last = 0;
     let session = session_of(logs.term, lead.part);
-    Ok(Snapshot { session, leader, rows })
+    Ok(Snapshot {
+        session,
+        leader,
+        rows,
+    })
 }

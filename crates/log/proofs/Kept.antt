@@ -39,7 +39,7 @@ module _ (l : Logs) (m r n : ℕ) (s : Shaped l m) (h : r < l .copies) (b : n �
     knows = λ k j. elim (either k r) [
       | inl e ↦ omega (arith, ap (λ (x : ℕ). getD (set (l .known) r n) x 0) e, getD-set-same (l .known) r n 0 (omega (arith, s .few, s .places .known-seven)), ap (λ (x : ℕ). getD (l .lengths) x 0) e)
       | inr e ↦ omega (arith, getD-set-other (l .known) r k n 0 e, s .knows k j)
-    ]
+    ];
   }
 
 -- a copy that holds n of the committed log's entries has so many

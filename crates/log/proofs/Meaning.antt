@@ -130,7 +130,7 @@ module _ {V : Type 0} (l : Logs) (es : List (Entry V)) (s : Shaped l (length es)
       let k : gap (logOf l es a) (logOf l es r) < length (logOf l es a) = grind (arith, tells) in
       let one : take 1 (drop (gap (logOf l es a) (logOf l es r)) (logOf l es a)) ≡ getD (logOf l es a) (gap (logOf l es a) (logOf l es r)) (blankEntry blank) ∷ [] = rw (drop-more (logOf l es a) (gap (logOf l es a) (logOf l es r)) (blankEntry blank) k) in
       let m = put-means r (gap (logOf l es a) (logOf l es r)) (getD (logOf l es a) (gap (logOf l es a) (logOf l es r)) (blankEntry blank)) hr
-            (omega (arith, gap-short (logOf l es a) (logOf l es r), log-length r hr)) (omega (arith, log-length a ha, s .inside a ha)) in
+      (omega (arith, gap-short (logOf l es a) (logOf l es r), log-length r hr)) (omega (arith, log-length a ha, s .inside a ha)) in
       ap (λ (x : View V). (x, Ok (gap (logOf l es a) (logOf l es r) + 1))) (rw (← one) at m)
 
   copy-from : (blank : V) (r : ℕ) (o : Option ℕ) → ((a : ℕ) → o ≡ Some a → a < l .copies) → r < l .copies → seen (copyBy blank l es r o) ≡ copyFrom (viewOf l es) r o

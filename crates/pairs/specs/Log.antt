@@ -60,7 +60,7 @@ copies = record {
   log = λ r. cond (eqb r 0) full (cond (eqb r 1) short other);
   known = λ r. cond (eqb r 2) 1 2;
   term = 1;
-  leader = Some 0
+  leader = Some 0;
 }
 
 -- the shorter log holds two entries of the full one and not three; the log with a later term is newer

@@ -32,8 +32,22 @@ fn value_of(r: &[u8]) -> [u8; 16]
     ensures { λ x. ⌜ x ≡ valueBytes (now (r .entry)) ⌝ }
 {
     [
-        r[8], r[9], r[10], r[11], r[12], r[13], r[14], r[15], r[16], r[17], r[18], r[19], r[20],
-        r[21], r[22], r[23],
+        r[8],
+        r[9],
+        r[10],
+        r[11],
+        r[12],
+        r[13],
+        r[14],
+        r[15],
+        r[16],
+        r[17],
+        r[18],
+        r[19],
+        r[20],
+        r[21],
+        r[22],
+        r[23],
     ]
 }
 
@@ -49,7 +63,14 @@ fn correct_call<V: RecordKind>(a: u8, b: u8, n: u32, value: &[u8; 16]) -> Option
     ensures { λ r. ⌜ r ≡ correctOf (V·RecordKind .parsed) a b n (now (value .entry)) ⌝ }
 {
     match V::from_bytes(value) {
-        Some(v) => when(b == 0, Call::Correct { client: a, star: n, value: v }),
+        Some(v) => when(
+            b == 0,
+            Call::Correct {
+                client: a,
+                star: n,
+                value: v,
+            },
+        ),
         None => None,
     }
 }
@@ -61,11 +82,23 @@ fn low_code<V: RecordKind>(f: Fields) -> Option<Call<V>>
     let no_sets = (f.b == 0) & f.blank;
     let none = (f.a == 0) & no_sets & (f.n == 0);
     match f.code {
-        1 => when((f.n == 0) & f.blank, Call::Elect { copy: f.a, voters: f.b }),
+        1 => when(
+            (f.n == 0) & f.blank,
+            Call::Elect {
+                copy: f.a,
+                voters: f.b,
+            },
+        ),
         2 => when(none, Call::Open),
         3 => when(none, Call::Install),
         4 => when(none, Call::Restart),
-        5 => when(no_sets, Call::Read { client: f.a, star: f.n }),
+        5 => when(
+            no_sets,
+            Call::Read {
+                client: f.a,
+                star: f.n,
+            },
+        ),
         7 => when(no_sets & (f.n == 0), Call::Again { client: f.a }),
         8 => when(no_sets & (f.n == 0), Call::Abandon { client: f.a }),
         _ => None,
@@ -96,7 +129,11 @@ fn by_code<V: RecordKind>(f: Fields, value: &[u8; 16]) -> Option<Call<V>>
     if f.code == 6 {
         return correct_call(f.a, f.b, f.n, value);
     }
-    if f.code < 9 { low_code(f) } else { high_code(f) }
+    if f.code < 9 {
+        low_code(f)
+    } else {
+        high_code(f)
+    }
 }
 
 // The step that a record asks for, or none where it is malformed.

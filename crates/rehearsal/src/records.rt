@@ -77,7 +77,10 @@ pub fn filled<T: Copy>(heap: Global, x: T, n: usize) -> Result<Vec<T>, AllocErro
 pub fn rehearse_input<V: RecordKind>(heap: Global, input: &[u8]) -> Result<Vec<u8>, AllocError> {
     let entry = Entry {
         term: 0,
-        stamp: Stamp { session: 0, number: 0 },
+        stamp: Stamp {
+            session: 0,
+            number: 0,
+        },
         client: 0,
         number: 0,
         star: 0,

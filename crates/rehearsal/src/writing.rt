@@ -12,10 +12,49 @@ fn record_of(code: u8, class: u8, number: u8, layer: u8, result: u32, value: [u8
     ensures { λ r. ⌜ r ≡ recordOf code class number layer result value ⌝ }
 {
     let [n0, n1, n2, n3] = result.to_le_bytes();
-    let [v0, v1, v2, v3, v4, v5, v6, v7, v8, v9, va, vb, vc, vd, ve, vf] = value;
+    let [
+        v0,
+        v1,
+        v2,
+        v3,
+        v4,
+        v5,
+        v6,
+        v7,
+        v8,
+        v9,
+        va,
+        vb,
+        vc,
+        vd,
+        ve,
+        vf,
+    ] = value;
     [
-        code, class, number, layer, n0, n1, n2, n3, v0, v1, v2, v3, v4, v5, v6, v7, v8, v9, va, vb,
-        vc, vd, ve, vf,
+        code,
+        class,
+        number,
+        layer,
+        n0,
+        n1,
+        n2,
+        n3,
+        v0,
+        v1,
+        v2,
+        v3,
+        v4,
+        v5,
+        v6,
+        v7,
+        v8,
+        v9,
+        va,
+        vb,
+        vc,
+        vd,
+        ve,
+        vf,
     ]
 }
 

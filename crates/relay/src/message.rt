@@ -13,17 +13,34 @@ pub enum Outcome {
 pub enum Body {
     ReadRequest,
     CorrectionRequest,
-    CopyRead { copy: u8, index: u16 },
+    CopyRead {
+        copy: u8,
+        index: u16,
+    },
     LeaderRead,
-    Correction { sequence: u16 },
+    Correction {
+        sequence: u16,
+    },
     Installed,
     // A read reply of the leader.
     LeaderReply,
     // A read reply of a copy, with the stamp of the zone's last entry there.
-    CopyReply { copy: u8, stamp: Stamp },
-    CorrectionReply { sequence: u16, outcome: Outcome, index: u16, holders: u8, stamp: Stamp },
+    CopyReply {
+        copy: u8,
+        stamp: Stamp,
+    },
+    CorrectionReply {
+        sequence: u16,
+        outcome: Outcome,
+        index: u16,
+        holders: u8,
+        stamp: Stamp,
+    },
     ReadAnswer,
-    CorrectionAnswer { outcome: Outcome, index: u16 },
+    CorrectionAnswer {
+        outcome: Outcome,
+        index: u16,
+    },
 }
 
 // A message on its way. Requests and answers have session 0; an installed message has no client,

@@ -33,7 +33,10 @@ fn unsettle(row: &mut Row, number: u16)
     row.latest = number;
     row.index = 0;
     row.holders = 0;
-    row.stamp = Stamp { session: 0, number: 0 };
+    row.stamp = Stamp {
+        session: 0,
+        number: 0,
+    };
 }
 
 impl Relay {

@@ -44,7 +44,10 @@ impl Relay {
             latest: 0,
             index: 0,
             holders: 0,
-            stamp: Stamp { session: 0, number: 0 },
+            stamp: Stamp {
+                session: 0,
+                number: 0,
+            },
         };
         Relay {
             opened: false,

@@ -51,8 +51,8 @@ module _ {V R : Type 0} where
       cond (not (tableFits (s .table) (length ms))) (s, ms, Err Memory)
       (onResult (beginOf s c star)
       (λ n.
-        let p = posted (s .table) ms (client.readRequest c n star) in
-        onResult (p .2) (λ u. (asking (withTable s (p .0)) c n (Reading star), p .1, Ok n)) (λ e. (withTable s (p .0), p .1, Err e)))
+      let p = posted (s .table) ms (client.readRequest c n star) in
+      onResult (p .2) (λ u. (asking (withTable s (p .0)) c n (Reading star), p .1, Ok n)) (λ e. (withTable s (p .0), p .1, Err e)))
       (λ e. (s, ms, Err e)))
 
   -- the number of the client's correction: 1, 19, 2, 9, 11
@@ -68,8 +68,8 @@ module _ {V R : Type 0} where
       cond (not (tableFits (s .table) (length ms))) (s, ms, ks, Err Memory)
       (onResult (beginCorrection wellFormed s ks c star v)
       (λ n.
-        let p = posted (s .table) ms (client.correctionRequest c n star v) in
-        onResult (p .2) (λ u. (asking (withTable s (p .0)) c n (Correction star), p .1, set ks c v, Ok n)) (λ e. (withTable s (p .0), p .1, ks, Err e)))
+      let p = posted (s .table) ms (client.correctionRequest c n star v) in
+      onResult (p .2) (λ u. (asking (withTable s (p .0)) c n (Correction star), p .1, set ks c v, Ok n)) (λ e. (withTable s (p .0), p .1, ks, Err e)))
       (λ e. (s, ms, ks, Err e)))
 
   -- the client's open request: 1, 2, 10

@@ -38,7 +38,11 @@ pub fn read<V: RecordKind, R: VoteRule>(
     }
     let number = begin(s, client, star)?;
     let star = star as u16;
-    state::post(&mut s.table, messages, client::read_request(client, number, star))?;
+    state::post(
+        &mut s.table,
+        messages,
+        client::read_request(client, number, star),
+    )?;
     s.clients[client as usize] = Client {
         number,
         waiting: Waiting::Reading { star },
@@ -90,7 +94,11 @@ pub fn correct<V: RecordKind, R: VoteRule>(
     }
     let number = begin_correction(s, kept, client, star, value)?;
     let star = star as u16;
-    state::post(&mut s.table, messages, client::correction_request(client, number, star, value))?;
+    state::post(
+        &mut s.table,
+        messages,
+        client::correction_request(client, number, star, value),
+    )?;
     s.clients[client as usize] = Client {
         number,
         waiting: Waiting::Correction { star },

@@ -21,7 +21,8 @@ fn open_request<V: RecordKind, R: VoteRule>(
     if client >= s.seats || client >= 8 {
         return Err(ServiceFault::NoSuch);
     }
-    let m = s.clients[client as usize].repeat(client, kept[client as usize])?;
+    let m = s.clients[client as usize]
+        .repeat(client, kept[client as usize])?;
     Ok(m)
 }
 

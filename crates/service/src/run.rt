@@ -48,9 +48,7 @@ pub fn perform<V: RecordKind, R: VoteRule>(
     ensures { λ x. ⌜ (now (s .exit), now (entries .exit), now (messages .exit), now (kept .exit), x) ≡ performStep (V·RecordKind .blankValue) (V·RecordKind .wellFormed) (V·RecordKind .lawful) (V·RecordKind .alike) (R·VoteRule .commits) (R·VoteRule .elects) (now (s .entry)) (now (entries .entry)) (now (messages .entry)) (now (kept .entry)) call ⌝ }
 {
     match call {
-        Call::Elect { copy, voters } => {
-            done_small(replication::elect(s, entries, copy, voters))
-        }
+        Call::Elect { copy, voters } => { done_small(replication::elect(s, entries, copy, voters)) }
         Call::Open => done(replication::open(s, entries)),
         Call::Install => done(requests::install(s, messages)),
         Call::Restart => {
@@ -58,9 +56,11 @@ pub fn perform<V: RecordKind, R: VoteRule>(
             Ok(Effect::Done(0))
         }
         Call::Read { client, star } => done_small(requests::read(s, messages, client, star)),
-        Call::Correct { client, star, value } => {
-            done_small(requests::correct(s, messages, kept, client, star, value))
-        }
+        Call::Correct {
+            client,
+            star,
+            value,
+        } => { done_small(requests::correct(s, messages, kept, client, star, value)) }
         Call::Again { client } => done_small(requests::again(s, messages, kept, client)),
         Call::Abandon { client } => done_plain(requests::abandon(s, client)),
         Call::Deliver { place } => delivery::deliver(s, entries, messages, place),

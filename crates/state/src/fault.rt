@@ -138,6 +138,10 @@ impl ServiceFault {
     pub fn class(self) -> Class
         ensures { λ r. ⌜ r ≡ classOf self ⌝ }
     {
-        if self.number() < 20 { Class::Refused } else { Class::Dropped }
+        if self.number() < 20 {
+            Class::Refused
+        } else {
+            Class::Dropped
+        }
     }
 }

@@ -1,8 +1,8 @@
+use kinds::Place;
 use phrases::PlaceDisplay;
 use phrases::PlaceText;
 use phrases::SetDisplay;
 use phrases::SetText;
-use kinds::Place;
 use service::Call;
 use std::fmt;
 

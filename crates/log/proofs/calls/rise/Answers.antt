@@ -14,5 +14,5 @@ returns g c =
       value = c .rise-step .ensures;
       means = ap (seenAt (c .args .entries .now)) (c .rise-step .ensures) ∙ rise-means (c .args .logs .now) (c .args .entries .now) (c .pre .shape) (g .V·RecordKind .alike) (c .args .r) (c .args .n) (c .pre .copy);
       shape = subst (λ (l : Logs). Shaped l (length (c .args .entries .now))) (sym (ap (λ (p : Logs × Result (Unit {0}) LogFault). p .0) (c .rise-step .ensures)))
-            (rise-kept (g .V·RecordKind .alike) (c .args .logs .now) (c .args .entries .now) (c .args .r) (c .args .n) (length (c .args .entries .now)) (c .pre .shape) (c .pre .copy))
+          (rise-kept (g .V·RecordKind .alike) (c .args .logs .now) (c .args .entries .now) (c .args .r) (c .args .n) (length (c .args .entries .now)) (c .pre .shape) (c .pre .copy));
     }
