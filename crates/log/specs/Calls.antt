@@ -99,4 +99,4 @@ module _ {V : Type 0} where
     abbrev pub entryKnown : Logs → List (Entry V) → ℕ → ℕ → Result (Entry V) LogFault
     entryKnown l es a i =
         cond (eqb i 0 || ltb (getD (l .known) a 0) i) (Err CountOutOfRange)
-        (Ok (getD es (a * l .capacity + (i - 1)) blankEntry))
+        (Ok (getD (logOf l es a) (i - 1) blankEntry))

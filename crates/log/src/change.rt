@@ -5,7 +5,7 @@ ghost use Rattle.std.specs.Options.{Cases};
 ghost use Rattle.std.specs.Results.{Cases as ByOk};
 ghost use Rattle.std.specs.declared.option.Option.the-variants.{Some};
 ghost use Rattle.copies.specs.Shape.{Shaped};
-ghost use Rattle.log.specs.Calls.{leaderIn, putStep, appendStep, nextOf, copyStep, entryKnown, riseStep};
+ghost use Rattle.log.specs.Calls.{leaderIn, putStep, appendStep, nextOf, copyStep, blankEntry, entryKnown, riseStep};
 use crate::fault::LogFault;
 use copies::Logs;
 use entries::Entry;
@@ -92,6 +92,14 @@ pub fn copy_step<V: RecordKind>(
     Ok(put_entry(logs, entries, r, at, e))
 }
 
+// The entry at a place of a log, counted from 0.
+fn entry_at<V: RecordKind>(log: &[Entry<V>], at: usize) -> Entry<V>
+    requires { ⌜ at < length (now log) ⌝ }
+    ensures { λ x. ⌜ x ≡ getD (now (log .entry)) at (blankEntry (V·RecordKind .blankValue)) ⌝ }
+{
+    log[at]
+}
+
 // Copy a's entry i, counted from 1, within its known count.
 pub fn entry_known<V: RecordKind>(
     logs: &Logs,
@@ -107,8 +115,7 @@ pub fn entry_known<V: RecordKind>(
     if i == 0 || i > logs.known[a as usize] as u32 {
         return Err(LogFault::CountOutOfRange);
     }
-    let at = logs.place(entries.len(), a, i as usize - 1);
-    Ok(entries[at])
+    Ok(entry_at(logs.log(entries, a), i as usize - 1))
 }
 
 // Copy r's known count rises to n, if lower, where its first n entries are the committed log's.

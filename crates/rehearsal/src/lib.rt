@@ -5,7 +5,6 @@ mod writing;
 
 pub use reading::decode;
 pub use records::answer;
-pub use records::filled;
 pub use records::rehearse;
 pub use records::rehearse_input;
 pub use writing::encode;

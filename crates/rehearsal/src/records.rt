@@ -1,14 +1,10 @@
 ghost use mathlib.Core.Path.{_≡_};
-ghost use Rattle.std.specs.Of.Vec.{vec-len};
-ghost use Rattle.std.specs.Vec.{made};
 ghost use Rattle.rehearsal.specs.Answer.{codeOf, answerStep};
 use crate::reading::decode;
 use crate::writing::encode;
 use crate::writing::fault_record;
 use entries::Entry;
-use entries::Stamp;
 use kinds::RecordKind;
-use relay::Body;
 use relay::Message;
 use state::Service;
 use state::ServiceFault;
@@ -61,42 +57,12 @@ pub fn rehearse<V: RecordKind, R: VoteRule>(
     Ok(out)
 }
 
-// Memory for n of what is like x.
-pub fn filled<T: Copy>(heap: Global, x: T, n: usize) -> Result<Vec<T>, AllocError>
-    ensures { λ r. ⌜ made r (λ v. vec-len v ≡ n) ⌝ }
-{
-    let mut v = Vec::new(heap);
-    for i in 0..n {
-        v.push(x)?;
-    }
-    Ok(v)
-}
-
 // Rehearses the whole input on a new service of 3 copies, majority, 64 entries, 32 messages and 4
 // clients.
 pub fn rehearse_input<V: RecordKind>(heap: Global, input: &[u8]) -> Result<Vec<u8>, AllocError> {
-    let entry = Entry {
-        term: 0,
-        stamp: Stamp {
-            session: 0,
-            number: 0,
-        },
-        client: 0,
-        number: 0,
-        star: 0,
-        value: V::blank(),
-    };
-    let message: Message<V> = Message {
-        client: 0,
-        number: 0,
-        star: 0,
-        session: 0,
-        body: Body::ReadRequest,
-        value: None,
-    };
-    let mut entries = filled(heap, entry, 192)?;
-    let mut messages = filled(heap, message, 32)?;
-    let mut kept = filled(heap, V::blank(), 4)?;
+    let mut entries = state::filled(heap, state::blank_entry::<V>(), 192)?;
+    let mut messages = state::filled(heap, state::blank_message::<V>(), 32)?;
+    let mut kept = state::filled(heap, V::blank(), 4)?;
     let made = state::new_service(
         Majority::new(3),
         64,

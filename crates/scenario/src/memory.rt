@@ -4,11 +4,9 @@ ghost use Rattle.std.specs.Of.Vec.{vec-len};
 ghost use Rattle.std.specs.Vec.{made};
 use crate::sizes::Sizes;
 use entries::Entry;
-use entries::Stamp;
 use kinds::Place;
 use kinds::PlaceKind;
 use kinds::RecordKind;
-use relay::Body;
 use relay::Message;
 use std::alloc::AllocError;
 use std::alloc::Global;
@@ -19,42 +17,6 @@ pub struct Memory {
     pub entries: Vec<Entry<Place>>,
     pub messages: Vec<Message<Place>>,
     pub kept: Vec<Place>,
-}
-
-fn blank_entry() -> Entry<Place> {
-    Entry {
-        term: 0,
-        stamp: Stamp {
-            session: 0,
-            number: 0,
-        },
-        client: 0,
-        number: 0,
-        star: 0,
-        value: Place::blank(),
-    }
-}
-
-fn blank_message() -> Message<Place> {
-    Message {
-        client: 0,
-        number: 0,
-        star: 0,
-        session: 0,
-        body: Body::Installed,
-        value: None,
-    }
-}
-
-// The same value n times.
-fn filled<T: Copy>(heap: Global, value: T, n: usize) -> Result<Vec<T>, AllocError>
-    ensures { λ r. ⌜ made r (λ v. vec-len v ≡ n) ⌝ }
-{
-    let mut all = Vec::with_capacity(heap, n)?;
-    for k in 0..n {
-        all.push(value)?;
-    }
-    Ok(all)
 }
 
 impl Memory {
@@ -68,9 +30,9 @@ impl Memory {
         let places = sizes.messages.min(256) as usize;
         let seats = sizes.clients.min(8) as usize;
         Ok(Memory {
-            entries: filled(heap, blank_entry(), room)?,
-            messages: filled(heap, blank_message(), places)?,
-            kept: filled(heap, Place::blank(), seats)?,
+            entries: state::filled(heap, state::blank_entry(), room)?,
+            messages: state::filled(heap, state::blank_message(), places)?,
+            kept: state::filled(heap, Place::blank(), seats)?,
         })
     }
 

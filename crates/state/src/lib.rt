@@ -2,6 +2,7 @@
 // plain struct, beside the memory that is lent to each step; the message table; and the number,
 // layer and class of each refusal and drop.
 mod fault;
+mod memory;
 mod service;
 mod shape;
 mod table;
@@ -11,6 +12,9 @@ pub use fault::ServiceFault;
 pub use fault::ServiceFaultFromClient;
 pub use fault::ServiceFaultFromLeader;
 pub use fault::ServiceFaultFromRelay;
+pub use memory::blank_entry;
+pub use memory::blank_message;
+pub use memory::filled;
 pub use service::Service;
 pub use service::Table;
 pub use shape::new_service;
