@@ -4,8 +4,8 @@
     python3 model/make_stored.py --check    writes nothing; status 1 if they differ
 
 For each program the folder of its crate gets the files stdin and stdout.  The
-inputs come from fixed seeds; the one for places begins with the four worked
-records.  What is made is also run through the coverage test.
+inputs come from fixed seeds; the one for places begins with an open that is
+refused for want of a leader, which changes nothing, and the four worked records.  What is made is also run through the coverage test.
 """
 
 import sys
@@ -19,9 +19,12 @@ ROOT = Path(__file__).resolve().parent.parent
 
 STEPS = 3_200
 
+# An open before any election.
+EARLY_OPEN = bytes([2]) + bytes(23)
+
 # Of each program: its kind, its seed, and the records it begins with.
 STORED = {
-    "rehearse_place": ("place", 51, [record for record, _ in WORKED]),
+    "rehearse_place": ("place", 51, [EARLY_OPEN] + [record for record, _ in WORKED]),
     "rehearse_mag": ("mag", 26, []),
 }
 
