@@ -1,4 +1,6 @@
 // A client has one request open at most, known by its number, and takes only the answer to it.
+#![tactic(auto)]
+
 mod client;
 mod fault;
 

@@ -1,4 +1,6 @@
 // The copies' logs, all in one lent slice of entries, and what is asked of them.
+#![tactic(auto)]
+
 mod logs;
 mod questions;
 mod shape;

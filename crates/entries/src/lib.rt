@@ -1,5 +1,7 @@
 // Entries of a log, and what is asked of lent slices of them, written once for every record kind:
 // the last entry that is sought, whether two logs begin alike, which is newer, where they part.
+#![tactic(auto)]
+
 mod compare;
 mod entry;
 mod fronts;

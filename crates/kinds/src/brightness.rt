@@ -1,5 +1,5 @@
-ghost use Rattle.std.specs.Prelude.{◌≡◌, pos, negsuc, from_bits, is_nan};
-ghost use Rattle.std.specs.Float.Ieee.{nan_bits, of_int, of_fields, odd};
+ghost use Rattle.std.specs.Prelude.{◌≡◌, pos, negsuc};
+ghost use Rattle.std.specs.Float.Ieee.{is_nan, nan_bits, of_bits, of_int, of_fields, odd};
 ghost use Rattle.std.specs.Float.{binary32};
 ghost use Rattle.kinds.specs.Brightness.{brightness_fits, well_formed_brightness, lawful_brightness, brightness_bytes, brightness_parsed, blank_brightness, same_brightness, lawful_magnitude, same_magnitude};
 ghost use Rattle.kinds.specs.BrightnessLaws.{brightness_read, brightness_written};
@@ -76,7 +76,7 @@ impl RecordKind for Brightness {
 
     ghost written_back = { λ b v s e. brightness_written b v s e };
 
-    ghost blank_well_formed = { unfold is_nan from_bits of_fields odd in tt };
+    ghost blank_well_formed = { unfold is_nan of_bits of_fields odd in tt };
 
     ghost alike_decides = { λ p q. decides_brightness p q };
 

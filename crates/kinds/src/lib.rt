@@ -1,5 +1,7 @@
 // Record kinds: what a value is, which values are well formed and lawful, and the sixteen bytes
 // that stand for each.
+#![tactic(auto)]
+
 mod brightness;
 mod kind;
 mod place;

@@ -1,5 +1,7 @@
 // The leader's part: its session and last sequence number, the snapshot that it opens a session
 // with, and what the leader and the copies do with the messages that reach them.
+#![tactic(auto)]
+
 mod corrections;
 mod fault;
 mod lead;

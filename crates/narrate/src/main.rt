@@ -1,4 +1,6 @@
 // Tells scenarios in words: the files that are named as arguments, or else the standard input.
+#![tactic(auto)]
+
 use std::env::Args;
 use std::io::Read;
 use std::{env, fs};

@@ -1,5 +1,7 @@
 // Small cases of the rules, each an equation between definitions that the contracts of the other
 // crates cite, proved together.
+#![tactic(auto)]
+
 ghost use Rattle.pairs.specs.Log.{LogExamples};
 ghost use Rattle.pairs.specs.Pairs.{CheckedPairs};
 

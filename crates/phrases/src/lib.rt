@@ -1,4 +1,6 @@
 // What the service holds, in words: sessions, stamps, sets, places, entries, rows, clients and messages.
+#![tactic(auto)]
+
 mod messages;
 mod texts;
 

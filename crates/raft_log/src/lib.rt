@@ -1,5 +1,7 @@
 // The replicated log: elect, append, copy, commit and the rise of a copy's known count. A refused
 // call changes nothing.
+#![tactic(auto)]
+
 mod calls;
 mod change;
 mod fault;

@@ -1,4 +1,6 @@
 // The rehearsal of a service: each record of 24 bytes is a step, and is answered by 24 bytes.
+#![tactic(auto)]
+
 mod reading;
 mod records;
 mod writing;

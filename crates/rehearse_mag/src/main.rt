@@ -1,5 +1,7 @@
 // Rehearses a service of brightnesses: records of 24 bytes on standard input, and 24 bytes for each on
 // standard output.
+#![tactic(auto)]
+
 use kinds::Brightness;
 use std::io;
 use std::io::{Read, Write};

@@ -1,5 +1,7 @@
 // Rehearses a service of places: records of 24 bytes on standard input, and 24 bytes for each on
 // standard output.
+#![tactic(auto)]
+
 use kinds::Place;
 use std::io;
 use std::io::{Read, Write};

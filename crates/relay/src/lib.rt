@@ -1,5 +1,7 @@
 // The relay: it keeps one row for each zone and sends a reading to a copy that is known to be
 // current, otherwise to the leader. It stands above the log and knows only stamps, sessions and sets.
+#![tactic(auto)]
+
 mod choice;
 mod fault;
 mod message;

@@ -1,5 +1,7 @@
 // The steps at the copies and the leader: elect, open, copy, commit and reply. Lent memory that is
 // too small is refused first, and a refused step changes nothing.
+#![tactic(auto)]
+
 mod change;
 mod session;
 

@@ -1,5 +1,7 @@
 // The steps at the relay's switch, the clients and the message table: install, restart, read,
 // correct, again, abandon, lose and double. A refused step changes nothing.
+#![tactic(auto)]
+
 mod ask;
 mod repeat;
 mod table;

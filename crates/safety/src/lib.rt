@@ -1,4 +1,6 @@
 // The log is safe: what was committed stays, in every run.
+#![tactic(auto)]
+
 ghost use Rattle.votes.specs.Sets.{Admitted};
 ghost use Rattle.safety.specs.Example.{CommitsTwice};
 ghost use Rattle.safety.specs.Runs.{Stays};

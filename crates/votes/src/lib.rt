@@ -1,4 +1,6 @@
 // Vote rules: which sets of copies are enough to commit, and which to elect.
+#![tactic(auto)]
+
 mod every;
 mod majority;
 mod rule;

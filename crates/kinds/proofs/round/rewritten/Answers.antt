@@ -15,7 +15,7 @@ pub returns : goal.returns
 returns g c =
     let k = g.V.RecordKind in
     let b = c.args.b.now in
-    let v = c.in-ok-value.value in
-    again k.fits k.well_formed k.bytes (k.parsed b) b v c.to-bytes.result
+    let v = c.in_ok-value.value in
+    again k.fits k.well_formed k.bytes (k.parsed b) b v c.to_bytes.result
     (g.met.V.RecordKind.written_back b v (record { long = search rules; small = λ n. search rules }))
-    c.in-ok-value.ensures c.to-bytes.ensures.value
+    c.in_ok-value.ensures c.to_bytes.ensures.value

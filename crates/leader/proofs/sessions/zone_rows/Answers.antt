@@ -7,7 +7,7 @@ use Rattle.leader.proofs.sessions.zone_rows.Goals as goal
 
 pub loop-zone-preserved : goal.loop-zone-preserved
 loop-zone-preserved g c =
-    filled_more (zone_row c.args.logs.now c.args.entries.now c.args.leader c.args.holders) c.loop-zone.rows 16 c.loop-zone.zone _ (unsettled_row 0) c.loop-zone.invariant (omega arith) c.zone-row.ensures
+    filled_more (zone_row c.args.logs.now c.args.entries.now c.args.leader c.args.holders) c.loop-zone.rows 16 c.loop-zone.zone _ (unsettled_row 0) c.loop-zone.invariant (omega arith) c.zone_row.ensures
 
 pub returns : goal.returns
 unfolding zone_rows

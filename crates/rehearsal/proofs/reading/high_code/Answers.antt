@@ -26,6 +26,6 @@ pub returns-in-14 : goal.returns-in-14
 unfolding high_code
 returns-in-14 g c = search rules
 
-pub returns-in-default : goal.returns-in-default
+pub returns-in_default : goal.returns-in_default
 unfolding high_code
-returns-in-default g c = search rules
+returns-in_default g c = search rules

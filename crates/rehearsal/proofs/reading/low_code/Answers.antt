@@ -30,6 +30,6 @@ pub returns-in-8 : goal.returns-in-8
 unfolding low_code
 returns-in-8 g c = search rules
 
-pub returns-in-default : goal.returns-in-default
+pub returns-in_default : goal.returns-in_default
 unfolding low_code
-returns-in-default g c = search rules
+returns-in_default g c = search rules

@@ -8,4 +8,4 @@ unfolding record_of
 returns c =
     let k : length c.args.value ≡ 16 = search rules in
     let e = fill_by_all (λ k. get_or c.args.value k 0) c.args.value 16 0 k (λ _ _. refl) in
-    rw c.to-le-bytes.ensures (cc)
+    rw c.to_le_bytes.ensures (cc)

@@ -6,9 +6,9 @@ pub returns-then-not-fits : goal.returns-then-not-fits
 unfolding fresh_reply
 returns-then-not-fits g c = search rules
 
-pub returns-in-err-m : goal.returns-in-err-m
+pub returns-in_err-m : goal.returns-in_err-m
 unfolding fresh_reply
-returns-in-err-m g c = search rules
+returns-in_err-m g c = search rules
 
 pub returns : goal.returns
 unfolding fresh_reply

@@ -4,7 +4,7 @@ use Rattle.scenario.proofs.numbers.decimal.Goals as goal
 
 pub returns-in-None : goal.returns-in-None
 returns-in-None c =
-    sym (whole c.args.most c.args.word.now c.if-is-empty.ensures
+    sym (whole c.args.most c.args.word.now c.if-is_empty.ensures
     ∙ c.loop-byte.invariant.0
     ∙ place_no c.args.most c.loop-byte.n c.args.word.now c.loop-byte.byte-index c.loop-byte-test.true c.in-None.ensures)
 
@@ -15,6 +15,6 @@ loop-byte-preserved c =
 
 pub returns : goal.returns
 returns c =
-    sym (whole c.args.most c.args.word.now c.if-is-empty.ensures
+    sym (whole c.args.most c.args.word.now c.if-is_empty.ensures
     ∙ c.loop-byte.invariant.0
     ∙ place_end c.args.most c.loop-byte.n c.args.word.now c.loop-byte.byte-index c.loop-byte-test.false c.loop-byte.invariant.1)
