@@ -26,8 +26,8 @@ pub fn take_message<V: RecordKind>(
 
 // A new message goes to the end.
 pub fn put_message<V: RecordKind>(table: &mut Table, messages: &mut [Message<V>], m: Message<V>)
-    requires count_in_bounds { table.old.count < length messages.old }
-    requires count_bound { table.old.count < 65535 }
+    requires room { table.old.count < length messages.old }
+    requires bound { table.old.count < 65535 }
     ensures { (table.new, messages.new) ≡ put_at table.old messages.old m }
 {
     messages[table.count as usize] = m;

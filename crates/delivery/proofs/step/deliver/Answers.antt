@@ -16,4 +16,4 @@ put_message-requires g c =
     let e : c.react_to.new.s.table ≡ c.take_message-m.new.table = after_table _ _ _ _ _ c.react_to.ensures (react_table _ _ _ _ _ _ _) in
     let f : c.take_message-m.new.table.count ≡ c.args.s.now.table.count - 1 = ap (λ (p : Table × List (Message g.row.V.Denot) × Message g.row.V.Denot). p.0.count) c.take_message-m.ensures in
     let h : c.react_to.new.s.table.count ≡ c.take_message-m.new.table.count = ap (λ (x : Table). x.count) e in
-    (omega arith, omega arith)
+    record { room = omega arith; bound = omega arith }
