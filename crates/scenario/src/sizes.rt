@@ -58,10 +58,10 @@ impl Part {
 }
 
 fn read_rule(word: &[u8]) -> Option<Rule> {
-    if word == b"majority" {
+    if word == b"majority".as_slice() {
         return Some(Rule::Majority);
     }
-    if word == b"every" {
+    if word == b"every".as_slice() {
         Some(Rule::EveryCopy)
     } else {
         None
