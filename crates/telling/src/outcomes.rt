@@ -6,7 +6,7 @@ use relay::{Body, Message, Row, Snapshot};
 use scenario::Memory;
 use service::Call;
 use state::{Service, ServiceFault};
-use std::fmt;
+use std::alloc::AllocError;
 use std::fmt::Write;
 use votes::VoteRule;
 
@@ -18,7 +18,7 @@ pub fn tell_fault(
     class: &str,
     fault: ServiceFault,
     call: &Call<Place>,
-) -> fmt::Result {
+) -> Result<(), AllocError> {
     let number = fault.number();
     let layer = layer_name(fault.layer());
     let reason = sentence(fault, call);
@@ -26,7 +26,11 @@ pub fn tell_fault(
 }
 
 // What a client was told, in answer to which message.
-pub fn tell_answer(out: &mut String, m: &Message<Place>, answer: Answer<Place>) -> fmt::Result {
+pub fn tell_answer(
+    out: &mut String,
+    m: &Message<Place>,
+    answer: Answer<Place>,
+) -> Result<(), AllocError> {
     let client = m.client;
     let star = m.star;
     match answer {
@@ -48,7 +52,11 @@ pub fn tell_answer(out: &mut String, m: &Message<Place>, answer: Answer<Place>) 
 }
 
 // The message that the step put at the end of the table.
-fn tell_sent<R: VoteRule>(out: &mut String, s: &Service<R>, memory: &Memory) -> fmt::Result {
+fn tell_sent<R: VoteRule>(
+    out: &mut String,
+    s: &Service<R>,
+    memory: &Memory,
+) -> Result<(), AllocError> {
     let count = s.table.count;
     let last = (count as u32).saturating_sub(1);
     match memory.message(count, last) {
@@ -57,7 +65,7 @@ fn tell_sent<R: VoteRule>(out: &mut String, s: &Service<R>, memory: &Memory) -> 
     }
 }
 
-fn tell_appended<R: VoteRule>(out: &mut String, s: &Service<R>) -> fmt::Result {
+fn tell_appended<R: VoteRule>(out: &mut String, s: &Service<R>) -> Result<(), AllocError> {
     match s.logs.leader {
         Some(leader) if leader < 7 => {
             let length = s.logs.lengths[leader as usize];
@@ -71,7 +79,11 @@ fn tell_appended<R: VoteRule>(out: &mut String, s: &Service<R>) -> fmt::Result {
 }
 
 // What else a delivered message changed: the zone's row, or the copy's known count.
-fn tell_change<R: VoteRule>(out: &mut String, s: &Service<R>, m: &Message<Place>) -> fmt::Result {
+fn tell_change<R: VoteRule>(
+    out: &mut String,
+    s: &Service<R>,
+    m: &Message<Place>,
+) -> Result<(), AllocError> {
     let zone = m.star / 4096;
     let row = RowText(s.relay.rows[zone as usize]);
     match m.body {
@@ -92,7 +104,7 @@ pub fn tell_delivered<R: VoteRule>(
     memory: &Memory,
     before: u16,
     m: &Message<Place>,
-) -> fmt::Result {
+) -> Result<(), AllocError> {
     if s.table.count == before {
         tell_sent(out, s, memory)?;
     } else {
@@ -101,7 +113,7 @@ pub fn tell_delivered<R: VoteRule>(
     tell_change(out, s, m)
 }
 
-fn tell_unsettled(out: &mut String, rows: &[Row]) -> fmt::Result {
+fn tell_unsettled(out: &mut String, rows: &[Row]) -> Result<(), AllocError> {
     let mut some = false;
     for (zone, row) in rows.iter().enumerate() {
         if !row.settled {
@@ -116,7 +128,11 @@ fn tell_unsettled(out: &mut String, rows: &[Row]) -> fmt::Result {
     }
 }
 
-fn tell_opened(out: &mut String, session: u32, snapshot: &Option<Snapshot>) -> fmt::Result {
+fn tell_opened(
+    out: &mut String,
+    session: u32,
+    snapshot: &Option<Snapshot>,
+) -> Result<(), AllocError> {
     let session = SessionText(session);
     write!(
         out,
@@ -135,7 +151,7 @@ pub fn tell_done<R: VoteRule>(
     memory: &Memory,
     call: &Call<Place>,
     n: u32,
-) -> fmt::Result {
+) -> Result<(), AllocError> {
     match call {
         Call::Elect { copy, .. } => writeln!(out, "{INDENT}done: copy {copy} leads term {n}"),
         Call::Open => tell_opened(out, n, &s.snapshot),

@@ -9,13 +9,17 @@ use relay::Message;
 use scenario::{Line, Lines, Memory, Name, Rule, Sizes, read_line};
 use service::{Call, perform};
 use state::Service;
-use std::alloc::Global;
-use std::fmt;
+use std::alloc::{AllocError, Global};
 use std::fmt::Write;
 use votes::{EveryCopy, Majority, VoteRule};
 
 // A line that cannot be read, at most 60 bytes of it.
-fn tell_unreadable(out: &mut String, line: u64, text: &[u8], name: Option<Name>) -> fmt::Result {
+fn tell_unreadable(
+    out: &mut String,
+    line: u64,
+    text: &[u8],
+    name: Option<Name>,
+) -> Result<(), AllocError> {
     let expected = Expected(name);
     if text.len() > 60 {
         let start = SafeText(&text[0..60]);
@@ -48,7 +52,7 @@ fn tell_asked(
     line: u64,
     call: &Call<Place>,
     m: &Option<Message<Place>>,
-) -> fmt::Result {
+) -> Result<(), AllocError> {
     write!(out, "line {line}: {}", CallText(*call))?;
     match m {
         Some(m) => writeln!(out, " ({})", BriefText(*m)),
@@ -63,7 +67,7 @@ fn tell_step<R: VoteRule>(
     memory: &mut Memory,
     line: u64,
     call: Call<Place>,
-) -> fmt::Result {
+) -> Result<(), AllocError> {
     let m = handled(s, memory, &call);
     tell_asked(out, line, &call, &m)?;
     let before = s.table.count;
@@ -90,7 +94,7 @@ fn tell_line<R: VoteRule>(
     memory: &mut Memory,
     number: u64,
     line: Line,
-) -> fmt::Result {
+) -> Result<(), AllocError> {
     match line {
         Line::Blank => Ok(()),
         Line::Narration(text) => writeln!(out, "{}", SafeText(text)),
@@ -104,7 +108,7 @@ fn tell_line<R: VoteRule>(
 }
 
 // An empty line where narration begins. It answers whether the line is narration.
-fn tell_break(out: &mut String, narrated: bool, line: &Line) -> Result<bool, fmt::Error> {
+fn tell_break(out: &mut String, narrated: bool, line: &Line) -> Result<bool, AllocError> {
     match line {
         Line::Blank => Ok(narrated),
         Line::Narration(_) => {
@@ -122,7 +126,7 @@ fn tell_lines<R: VoteRule>(
     s: &mut Service<R>,
     memory: &mut Memory,
     mut lines: Lines,
-) -> fmt::Result {
+) -> Result<(), AllocError> {
     let mut narrated = false;
     while let Some(bytes) = lines.next() {
         let line = read_line(bytes);
@@ -137,7 +141,7 @@ fn tell_lines<R: VoteRule>(
 fn tell_prelude<'a>(
     out: &mut String,
     mut lines: Lines<'a>,
-) -> Result<(Sizes, Lines<'a>), fmt::Error> {
+) -> Result<(Sizes, Lines<'a>), AllocError> {
     let mut before = lines;
     while let Some(bytes) = lines.next() {
         let number = lines.number;

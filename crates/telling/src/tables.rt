@@ -5,11 +5,11 @@ use phrases::{ClientText, EntriesText, EntryText, MessageText, RowText, SessionT
 use relay::{Relay, Row, Snapshot};
 use scenario::Memory;
 use state::Service;
-use std::fmt;
+use std::alloc::AllocError;
 use std::fmt::Write;
 use votes::VoteRule;
 
-fn tell_log(out: &mut String, log: &[Entry<Place>]) -> fmt::Result {
+fn tell_log(out: &mut String, log: &[Entry<Place>]) -> Result<(), AllocError> {
     for (i, e) in log.iter().enumerate() {
         let index = i.wrapping_add(1);
         writeln!(out, "    {index}  {}", EntryText(*e))?;
@@ -17,7 +17,7 @@ fn tell_log(out: &mut String, log: &[Entry<Place>]) -> fmt::Result {
     Ok(())
 }
 
-fn tell_logs(out: &mut String, logs: &Logs, entries: &[Entry<Place>]) -> fmt::Result {
+fn tell_logs(out: &mut String, logs: &Logs, entries: &[Entry<Place>]) -> Result<(), AllocError> {
     if !logs.fits(entries.len()) {
         return Ok(());
     }
@@ -30,7 +30,7 @@ fn tell_logs(out: &mut String, logs: &Logs, entries: &[Entry<Place>]) -> fmt::Re
     Ok(())
 }
 
-fn tell_leader<R: VoteRule>(out: &mut String, s: &Service<R>) -> fmt::Result {
+fn tell_leader<R: VoteRule>(out: &mut String, s: &Service<R>) -> Result<(), AllocError> {
     let term = s.logs.term;
     let part = s.lead.part;
     let last = s.lead.last;
@@ -50,7 +50,7 @@ fn is_plain(row: &Row) -> bool {
     row.settled & (row.latest == 0) & (row.stamp.session == 0)
 }
 
-fn tell_rows(out: &mut String, rows: &[Row]) -> fmt::Result {
+fn tell_rows(out: &mut String, rows: &[Row]) -> Result<(), AllocError> {
     let mut plain = None;
     let mut zones = "all zones";
     for (zone, row) in rows.iter().enumerate() {
@@ -67,7 +67,7 @@ fn tell_rows(out: &mut String, rows: &[Row]) -> fmt::Result {
     }
 }
 
-fn tell_relay(out: &mut String, relay: &Relay) -> fmt::Result {
+fn tell_relay(out: &mut String, relay: &Relay) -> Result<(), AllocError> {
     if relay.session == 0 {
         return writeln!(out, "Relay: closed, no session installed yet");
     }
@@ -84,7 +84,7 @@ fn tell_relay(out: &mut String, relay: &Relay) -> fmt::Result {
     tell_rows(out, &relay.rows)
 }
 
-fn tell_snapshot(out: &mut String, snapshot: &Option<Snapshot>) -> fmt::Result {
+fn tell_snapshot(out: &mut String, snapshot: &Option<Snapshot>) -> Result<(), AllocError> {
     match snapshot {
         Some(s) => {
             let leader = s.leader;
@@ -98,7 +98,11 @@ fn tell_snapshot(out: &mut String, snapshot: &Option<Snapshot>) -> fmt::Result {
     }
 }
 
-fn tell_messages<R: VoteRule>(out: &mut String, s: &Service<R>, memory: &Memory) -> fmt::Result {
+fn tell_messages<R: VoteRule>(
+    out: &mut String,
+    s: &Service<R>,
+    memory: &Memory,
+) -> Result<(), AllocError> {
     let count = s.table.count;
     writeln!(out, "Messages under way: {count}")?;
     for (place, m) in memory.messages.iter().take(count as usize).enumerate() {
@@ -107,7 +111,7 @@ fn tell_messages<R: VoteRule>(out: &mut String, s: &Service<R>, memory: &Memory)
     Ok(())
 }
 
-fn tell_clients<R: VoteRule>(out: &mut String, s: &Service<R>) -> fmt::Result {
+fn tell_clients<R: VoteRule>(out: &mut String, s: &Service<R>) -> Result<(), AllocError> {
     writeln!(out, "Clients")?;
     for (client, c) in s.clients.iter().take(s.seats as usize).enumerate() {
         writeln!(out, "  client {client}: {}", ClientText(*c))?;
@@ -116,7 +120,11 @@ fn tell_clients<R: VoteRule>(out: &mut String, s: &Service<R>) -> fmt::Result {
 }
 
 // What there is at the end: the logs, the snapshot, the relay, the messages under way, the clients.
-pub fn tell_tables<R: VoteRule>(out: &mut String, s: &Service<R>, memory: &Memory) -> fmt::Result {
+pub fn tell_tables<R: VoteRule>(
+    out: &mut String,
+    s: &Service<R>,
+    memory: &Memory,
+) -> Result<(), AllocError> {
     writeln!(out, "")?;
     tell_leader(out, s)?;
     tell_logs(out, &s.logs, memory.entries.as_slice())?;
