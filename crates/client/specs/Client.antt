@@ -1,5 +1,5 @@
 -- Requests, answers, and what a client does with them.
-use Rattle.std.specs.Prelude.{ℕ, ◌+◌, Bool, cond, Some, None, Ok, Err, Option, Result, ◌==◌}
+use Rattle.std.specs.Prelude.{ℕ, ◌+◌, cond, Some, None, Ok, Err, Result, ◌==◌}
 use Rattle.relay.specs.declared.message.Body.TheVariants.{ReadRequest, CorrectionRequest}
 use Rattle.relay.specs.declared.message.Message.{Message}
 use Rattle.client.specs.declared.client.Waiting.{Waiting}

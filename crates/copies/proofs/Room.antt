@@ -1,5 +1,5 @@
 -- Each copy's part of the lent slice.
-use Rattle.std.proofs.Common.{ℕ, suc, ◌+◌, ◌*◌, ◌<◌, ◌≤◌, mul-le-mul_right, suc-mul, arith}
+use Rattle.std.proofs.Common.{ℕ, ◌+◌, ◌*◌, ◌<◌, ◌≤◌, mul-le-mul_right, suc-mul, arith}
 
 -- the part of a lower copy ends where that of a higher one begins, or before
 pub apart : (q r cap : ℕ) → q < r → q * cap + cap ≤ r * cap

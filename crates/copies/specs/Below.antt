@@ -1,5 +1,5 @@
 -- Tests and sets over the first numbers.
-use Rattle.std.specs.Prelude.{ℕ, zero, suc, ◌+◌, ◌*◌, Bool, true, false, cond, ◌&&◌}
+use Rattle.std.specs.Prelude.{ℕ, zero, suc, ◌+◌, ◌*◌, Bool, true, cond, ◌&&◌}
 
 -- each number below n passes
 abbrev pub all_below : (ℕ → Bool) → ℕ → Bool

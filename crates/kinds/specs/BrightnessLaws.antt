@@ -8,7 +8,7 @@ use Rattle.std.specs.Float.Ieee.Bits.{is_false, of_bits-fits, of_bits-to_bits, t
 use Rattle.std.specs.List.{range_with_len}
 use Rattle.std.proofs.lemmas.Bool.Decides.{nat_tests}
 use Rattle.kinds.specs.declared.brightness.Brightness.{Brightness}
-use Rattle.kinds.specs.Bytes.{Sixteen, at16, at32}
+use Rattle.kinds.specs.Bytes.{Sixteen, at32}
 use Rattle.kinds.specs.Brightness.{brightness_fits, well_formed_brightness, brightness_bytes, brightness_parsed, brightness_at, brightness_ends_in_zeros, has_nan}
 use Rattle.kinds.specs.Codes.{le32_of, le16_of, below_32, below_16, cond_some, sixteen}
 

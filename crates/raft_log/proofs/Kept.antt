@@ -1,5 +1,5 @@
 -- What a change of the logs leaves within its bounds.
-use Rattle.std.proofs.Common.{◌≡◌, ℕ, ◌*◌, ◌<◌, ◌≤◌, max, Bool, true, false, cond, not, ◌&&◌, leb, ◌⊎◌, List, length, get_or, take, drop, set, Ok, Err, Result, sym, refl, ap, ◌∙◌, inl, inr, arith}
+use Rattle.std.proofs.Common.{◌≡◌, ℕ, ◌*◌, ◌<◌, ◌≤◌, max, Bool, true, false, cond, not, leb, ◌⊎◌, List, length, get_or, take, drop, set, Ok, Err, Result, sym, refl, ap, inl, inr, arith}
 use Rattle.std.proofs.lemmas.List.{get_or-set_same, get_or-set_other, length-take, length-set}
 use Rattle.std.proofs.lemmas.Bool.{and_parts, leb-true}
 use Rattle.entries.specs.declared.entry.Entry.{Entry}

@@ -1,9 +1,9 @@
 -- Each call's equation over struct and slice means the move of the same name.
-use Rattle.std.proofs.Common.{◌≡◌, ℕ, suc, ◌+◌, ◌-◌, ◌*◌, ◌<◌, ◌≤◌, max, Bool, true, false, cond, not, ◌||◌, eqb, ltb, leb, ◌⊎◌, List, [], ◌∷◌, ◌++◌, length, get_or, take, drop, set, Some, None, Ok, Err, Option, Result, sym, refl, ap, ◌∙◌, inl, inr, arith}
+use Rattle.std.proofs.Common.{◌≡◌, ℕ, suc, ◌+◌, ◌-◌, ◌*◌, ◌<◌, ◌≤◌, max, Bool, true, false, cond, not, ◌||◌, eqb, ltb, leb, List, [], ◌∷◌, ◌++◌, length, get_or, take, drop, set, Some, None, Ok, Err, Option, Result, refl, ap, ◌∙◌, inl, inr, arith}
 use mathlib.Core.Path.{fun_ext}
 use Rattle.std.proofs.lemmas.Bool.{cases_order}
 use Rattle.std.proofs.lemmas.Bool.Decides.{nat_tests}
-use Rattle.std.proofs.lemmas.List.{get_or-set_same, get_or-set_other, take-take, take-set-le, take_more_set, take_all, drop-set-add, drop-set-lt, length-drop, length-take, drop_more}
+use Rattle.std.proofs.lemmas.List.{get_or-set_same, get_or-set_other, take-take, take-set-le, take_more_set, drop-set-add, drop-set-lt, length-drop, length-take, drop_more}
 use Rattle.entries.specs.declared.entry.Entry.{Entry}
 use Rattle.entries.specs.Fronts.{last_term, gap}
 use Rattle.copies.specs.declared.logs.Logs.{Logs}
@@ -11,9 +11,9 @@ use Rattle.copies.specs.Shape.{Shaped}
 use Rattle.copies.specs.View.{log_of, View, view_of}
 use Rattle.copies.specs.Questions.{none_newer, holders, holds_committed}
 use Rattle.raft_log.specs.declared.fault.LogFault.{LogFault}
-use Rattle.raft_log.specs.declared.fault.LogFault.TheVariants.{VotersNotEnough, VoterNewer, TermsUsedUp, NoLeader, NothingToCopy, CountOutOfRange, OtherTerm, HoldersNotEnough, LogFull, NotCommitted}
-use Rattle.raft_log.specs.Calls.{with_leader, with_length, with_known, elect_step, put_step, append_step, blank_entry, next_of, copy_put, copy_by, copy_step, commit_by, commit_step, rise_step}
-use Rattle.raft_log.specs.Moves.{put, leading, logged, knowing, copied, elect_move, append_move, copy_from, copy_move, commit_at, commit_move, rise_move}
+use Rattle.raft_log.specs.declared.fault.LogFault.TheVariants.{VotersNotEnough, VoterNewer, NothingToCopy, CountOutOfRange, OtherTerm, HoldersNotEnough, LogFull, NotCommitted}
+use Rattle.raft_log.specs.Calls.{with_length, with_known, elect_step, append_step, blank_entry, copy_put, copy_by, copy_step, commit_by, commit_step, rise_step}
+use Rattle.raft_log.specs.Moves.{put, logged, knowing, copied, elect_move, append_move, copy_from, copy_move, commit_at, commit_move, rise_move}
 use Rattle.copies.proofs.Room.{apart, block_of}
 
 -- a function goes through a choice

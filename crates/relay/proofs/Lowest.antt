@@ -1,5 +1,5 @@
 -- The search for the lowest copy of a set, one copy more.
-use Rattle.std.proofs.Common.{◌≡◌, ℕ, zero, suc, ◌+◌, ◌-◌, ◌<◌, ◌≤◌, true, false, Some, None, sym, refl, ap, ◌∙◌, add-one, arith}
+use Rattle.std.proofs.Common.{◌≡◌, ℕ, suc, ◌+◌, ◌-◌, ◌<◌, ◌≤◌, true, false, Some, None, add-one, arith}
 use Rattle.votes.specs.Sets.{has}
 use Rattle.relay.specs.Choice.{lowest_from}
 

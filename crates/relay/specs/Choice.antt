@@ -1,5 +1,5 @@
 -- Which copy a reading is sent to.
-use Rattle.std.specs.Prelude.{ℕ, zero, suc, ◌+◌, ◌-◌, ◌%◌, Bool, cond, Some, None, Option}
+use Rattle.std.specs.Prelude.{ℕ, zero, suc, ◌+◌, ◌-◌, ◌%◌, cond, Some, None, Option}
 use Rattle.votes.specs.Sets.{has}
 
 -- the lowest of the m copies from k on that the set has

@@ -1,5 +1,5 @@
 -- What each message does at the relay: the relay after it, and the message that is sent, or why it is dropped.
-use Rattle.std.specs.Prelude.{ℕ, ◌+◌, Bool, true, false, cond, not, ◌&&◌, List, Some, None, Ok, Err, Option, Result, ◌==◌, slice_index_or, slice_set}
+use Rattle.std.specs.Prelude.{ℕ, ◌+◌, Bool, true, false, cond, not, ◌&&◌, Some, None, Ok, Err, Option, Result, ◌==◌, slice_index_or, slice_set}
 use Rattle.entries.specs.declared.entry.Stamp.{Stamp}
 use Rattle.entries.specs.Search.{zone_of}
 use Rattle.relay.specs.declared.message.Outcome.{Outcome}

@@ -1,5 +1,5 @@
 -- A new service, and a service with one part changed.
-use Rattle.std.specs.Prelude.{ℕ, Bool, cond, not, ◌&&◌, List, replicate, None, Ok, Err, Option, Result}
+use Rattle.std.specs.Prelude.{ℕ, cond, not, List, replicate, None, Ok, Err, Option, Result}
 use Rattle.copies.specs.declared.logs.Logs.{Logs}
 use Rattle.copies.specs.Shape.{new_logs, shaped}
 use Rattle.relay.specs.declared.rows.Relay.{Relay}

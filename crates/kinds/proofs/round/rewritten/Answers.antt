@@ -1,5 +1,4 @@
 use Rattle.std.proofs.Common.{◌≡◌, ℕ, Bool, true, false, cond, T, List, is_some, Some, None, Option, sym, rules}
-use Rattle.kinds.specs.Bytes.{Sixteen}
 use Rattle.kinds.proofs.round.rewritten.Goals as goal
 
 -- the bytes of a well-formed value that was read from them

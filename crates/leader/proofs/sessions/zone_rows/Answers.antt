@@ -1,5 +1,4 @@
-use Rattle.std.proofs.Common.{◌≡◌, ℕ, ◌<◌, length, get_or, set, sym, ◌∙◌, subst, arith, length-set}
-use Rattle.relay.specs.declared.rows.Row.{Row}
+use Rattle.std.proofs.Common.{arith}
 use Rattle.relay.specs.Rows.{unsettled_row}
 use Rattle.leader.specs.Sessions.{zone_row, zone_rows}
 use Rattle.leader.proofs.Filled.{filled_more, filled_all}

@@ -1,4 +1,4 @@
-use Rattle.std.proofs.Common.{arith, rules}
+use Rattle.std.proofs.Common.{arith}
 use Rattle.raft_log.proofs.change.copy_step.Goals as goal
 
 pub put_entry-requires : goal.put_entry-requires

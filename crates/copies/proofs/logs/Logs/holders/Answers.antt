@@ -1,6 +1,5 @@
-use Rattle.std.proofs.Common.{◌≡◌, ℕ, ◌+◌, ◌^◌, ◌<◌, Bool, ap, ◌∙◌, arith}
+use Rattle.std.proofs.Common.{ℕ, ◌+◌, Bool, ap, ◌∙◌, arith}
 use Rattle.std.proofs.lemmas.Nat.{one_shl}
-use Rattle.copies.specs.Below.{mask}
 use Rattle.copies.specs.View.{view_of}
 use Rattle.copies.specs.Questions.{holds_of}
 use Rattle.copies.proofs.Below.{mask_yes, mask_no}
