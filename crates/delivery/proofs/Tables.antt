@@ -1,5 +1,5 @@
 -- No message changes the table where it arrives.
-use Rattle.std.proofs.Common.{◌≡◌, ℕ, Bool, true, false, cond, ◌||◌, leb, List, Result, sym, refl, ap, ◌∙◌}
+use Rattle.std.proofs.Common.{◌≡◌, Bool, true, false, cond, ◌||◌, leb, List, Result, refl, ap, ◌∙◌}
 use Rattle.entries.specs.declared.entry.Entry.{Entry}
 use Rattle.relay.specs.declared.message.Body.{Body}
 use Rattle.relay.specs.declared.message.Body.TheVariants as bodies

@@ -1,5 +1,5 @@
 -- A small log with three copies, and what is asked of it.
-use Rattle.std.specs.Prelude.{◌≡◌, ℕ, Bool, true, false, cond, List, [], ◌∷◌, take, pos, Some, None, Option, ◌==◌}
+use Rattle.std.specs.Prelude.{◌≡◌, ℕ, true, false, cond, List, [], ◌∷◌, take, pos, Some, None, ◌==◌}
 use Rattle.kinds.specs.declared.place.Place.{Place}
 use Rattle.kinds.specs.Place.{same_place, blank_place}
 use Rattle.entries.specs.declared.entry.Stamp.{Stamp}

@@ -1,5 +1,5 @@
 -- Small cases of the rules.
-use Rattle.std.specs.Prelude.{◌≡◌, ℕ, Bool, true, false, List, [], ◌∷◌, map, pos, Some, None, Option}
+use Rattle.std.specs.Prelude.{◌≡◌, ℕ, true, false, [], ◌∷◌, map, pos, Some}
 use Rattle.kinds.specs.declared.place.Place.{Place}
 use Rattle.kinds.specs.Place.{lawful_place, blank_place}
 use Rattle.votes.specs.Rules.{majority, every_copy, any_copy}

@@ -4,7 +4,6 @@ use Rattle.kinds.specs.Bytes.{le32}
 use Rattle.client.specs.declared.client.Answer.{Answer}
 use Rattle.client.specs.declared.client.Answer.TheVariants.{Reading, Correction}
 use Rattle.state.specs.declared.fault.ServiceFault.{ServiceFault}
-use Rattle.state.specs.declared.fault.ServiceFault.TheVariants.{Malformed}
 use Rattle.state.specs.declared.fault.Class.{Class}
 use Rattle.state.specs.declared.fault.Class.TheVariants.{Refused, Dropped}
 use Rattle.state.specs.Numbers.{number_of, layer_of, class_of}

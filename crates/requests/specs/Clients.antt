@@ -1,5 +1,5 @@
 -- The steps of a client: the checks in their order, then the effect.
-use Rattle.std.specs.Prelude.{ℕ, Bool, cond, not, ◌&&◌, ◌||◌, List, length, Ok, Err, Result, ◌==◌, nat_le, nat_lt, slice_index_or, slice_set}
+use Rattle.std.specs.Prelude.{ℕ, Bool, cond, not, ◌||◌, List, length, Ok, Err, Result, ◌==◌, nat_le, nat_lt, slice_index_or, slice_set}
 use Rattle.relay.specs.declared.message.Message.{Message}
 use Rattle.leader.specs.Faults.{lifted, on_result}
 use Rattle.client.specs.declared.client.Client.{Client}

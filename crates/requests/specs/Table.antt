@@ -1,5 +1,5 @@
 -- The steps at the relay's switch and the message table: the checks in their order, then the effect.
-use Rattle.std.specs.Prelude.{ℕ, Bool, cond, not, List, length, None, Ok, Err, Result, nat_le}
+use Rattle.std.specs.Prelude.{ℕ, cond, not, List, length, None, Ok, Err, Result, nat_le}
 use Rattle.relay.specs.declared.message.Body.TheVariants.{Installed}
 use Rattle.relay.specs.declared.message.Message.{Message}
 use Rattle.relay.specs.declared.rows.Snapshot.{Snapshot}

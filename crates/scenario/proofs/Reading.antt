@@ -1,7 +1,7 @@
 -- One digit more of a number that is read.
-use Rattle.std.proofs.Common.{◌≡◌, ℕ, ◌+◌, ◌-◌, ◌*◌, ◌<◌, ◌≤◌, Bool, true, false, cond, ◌&&◌, eqb, leb, List, [], ◌∷◌, length, get_or, drop, Some, None, Option, sym, refl, ap, ◌∙◌, arith}
+use Rattle.std.proofs.Common.{◌≡◌, ℕ, ◌+◌, ◌<◌, ◌≤◌, false, cond, ◌&&◌, eqb, leb, List, [], ◌∷◌, length, get_or, drop, Some, None, Option, refl, ◌∙◌, arith}
 use Rattle.std.proofs.lemmas.List.{at_drop_more, at_drop_all}
-use Rattle.scenario.specs.Numbers.{digit, digits, more, value, written, decimal, with_digit}
+use Rattle.scenario.specs.Numbers.{digits, more, value, decimal, with_digit}
 
 -- what is read of the rest, after the number n
 abbrev pub read_from : ℕ → ℕ → List ℕ → Option ℕ

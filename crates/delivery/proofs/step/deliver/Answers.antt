@@ -1,4 +1,4 @@
-use Rattle.std.proofs.Common.{◌≡◌, ℕ, ◌-◌, List, refl, ap, arith}
+use Rattle.std.proofs.Common.{◌≡◌, ◌-◌, List, refl, ap, arith}
 use Rattle.relay.specs.declared.message.Message.{Message}
 use Rattle.state.specs.declared.service.Table.{Table}
 use Rattle.delivery.proofs.Tables.{react_table, after_table}

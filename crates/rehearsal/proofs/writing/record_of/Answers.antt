@@ -1,4 +1,4 @@
-use Rattle.std.proofs.Common.{◌≡◌, length, get_or, sym, refl, rules}
+use Rattle.std.proofs.Common.{◌≡◌, length, get_or, refl, rules}
 use Rattle.std.proofs.lemmas.List.FromFn.{fill_by_all}
 use Rattle.rehearsal.specs.Encode.{record_of}
 use Rattle.rehearsal.proofs.writing.record_of.Goals as goal
