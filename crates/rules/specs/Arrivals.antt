@@ -1,5 +1,5 @@
 -- The step deliver: what each kind of message does where it arrives. What is dropped alters nothing.
-use Rattle.std.specs.Prelude.{ℕ, Bool, cond, List, length, Some, None, Ok, Err, Option, Result, ◌==◌, nat_le}
+use Rattle.std.specs.Prelude.{ℕ, Bool, cond, length, Some, None, Ok, Err, Option, Result, ◌==◌, nat_le}
 use Rattle.entries.specs.declared.entry.Stamp.{Stamp}
 use Rattle.raft_log.specs.declared.fault.LogFault.TheVariants.{NotCommitted}
 use Rattle.relay.specs.declared.message.Outcome.{Outcome}

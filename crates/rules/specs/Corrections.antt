@@ -2,14 +2,13 @@
 use Rattle.std.specs.Prelude.{ℕ, ◌-◌, Bool, cond, not, ◌||◌, Some, None, Ok, Err, Option, Result, ◌==◌, nat_le, nat_lt, slice_index_or}
 use Rattle.entries.specs.declared.entry.Entry.{Entry}
 use Rattle.entries.specs.declared.entry.Sought.TheVariants.{Request, Term}
-use Rattle.entries.specs.Search.{no_stamp, last_of, index_of}
+use Rattle.entries.specs.Search.{last_of, index_of}
 use Rattle.copies.specs.View.{View}
 use Rattle.copies.specs.Questions.{holders}
 use Rattle.raft_log.specs.declared.fault.LogFault.{LogFault}
 use Rattle.raft_log.specs.declared.fault.LogFault.TheVariants.{CountOutOfRange}
 use Rattle.raft_log.specs.Calls.{leader_in, blank_entry}
 use Rattle.raft_log.specs.Moves.{append_move}
-use Rattle.relay.specs.declared.message.Outcome.{Outcome}
 use Rattle.relay.specs.declared.message.Outcome.TheVariants.{Fresh, KnownAlready, Unlawful}
 use Rattle.relay.specs.declared.message.Body.TheVariants.{CorrectionReply}
 use Rattle.relay.specs.declared.message.Message.{Message}

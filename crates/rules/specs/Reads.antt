@@ -1,10 +1,9 @@
 -- Readings at a copy and at the leader, over logs as lists.
-use Rattle.std.specs.Prelude.{ℕ, Bool, cond, not, Ok, Err, Option, Result}
+use Rattle.std.specs.Prelude.{ℕ, Bool, cond, not, Ok, Err, Result}
 use Rattle.entries.specs.Search.{zone_of, last_value, zone_stamp}
 use Rattle.copies.specs.View.{View}
 use Rattle.copies.specs.Questions.{known_log, ready}
 use Rattle.raft_log.specs.Moves.{rise_move}
-use Rattle.relay.specs.declared.message.Body.{Body}
 use Rattle.relay.specs.declared.message.Body.TheVariants.{LeaderReply, CopyReply}
 use Rattle.relay.specs.declared.message.Message.{Message}
 use Rattle.leader.specs.declared.lead.Lead.{Lead}

@@ -1,5 +1,5 @@
 -- Sessions, and the snapshot that one begins with, over logs as lists.
-use Rattle.std.specs.Prelude.{ℕ, ◌+◌, ◌*◌, Bool, cond, List, map, Some, None, Ok, Err, Option, Result, ◌==◌, nat_lt}
+use Rattle.std.specs.Prelude.{ℕ, ◌+◌, Bool, cond, List, map, Some, None, Ok, Err, Option, Result, ◌==◌, nat_lt}
 use Rattle.std.specs.List.{range_with_len}
 use Rattle.entries.specs.declared.entry.Sought.TheVariants.{Zone}
 use Rattle.entries.specs.Search.{last_of, index_of, zone_stamp}

@@ -1,11 +1,9 @@
 -- The fourteen steps but for deliver, in the order of their codes: the checks in their order, then the effect. A refused step
 -- leaves the service as it is.
-use Rattle.std.specs.Prelude.{ℕ, ◌/◌, ◌^◌, Bool, cond, not, ◌||◌, List, length, Some, None, Ok, Err, Result, nat_le, nat_lt}
+use Rattle.std.specs.Prelude.{ℕ, ◌/◌, ◌^◌, Bool, cond, not, ◌||◌, length, Ok, Err, Result, nat_le, nat_lt}
 use Rattle.raft_log.specs.Moves as log
 use Rattle.relay.specs.declared.message.Message.{Message}
-use Rattle.relay.specs.declared.rows.Snapshot.{Snapshot}
 use Rattle.relay.specs.Rows.{closed, installed, installable}
-use Rattle.leader.specs.declared.lead.Lead.{Lead}
 use Rattle.leader.specs.declared.fault.LeaderFault.TheVariants.{Log}
 use Rattle.leader.specs.Faults.{on_result}
 use Rattle.rules.specs.Sessions.{open_move as open_session}

@@ -1,6 +1,6 @@
 -- The whole service as its rules speak of it: logs as lists, the messages under way in their order, each client with its open
 -- request. One definition links it to the struct and the lent memory.
-use Rattle.std.specs.Prelude.{ℕ, ◌-◌, Bool, cond, List, [], ◌∷◌, ◌++◌, length, take, Some, None, Option, nat_le, slice_index_or, slice_set}
+use Rattle.std.specs.Prelude.{ℕ, ◌-◌, Bool, List, [], ◌∷◌, ◌++◌, length, take, Some, None, Option, nat_le, slice_index_or, slice_set}
 use Rattle.entries.specs.declared.entry.Entry.{Entry}
 use Rattle.copies.specs.View.{View, view_of}
 use Rattle.raft_log.specs.Moves.{put}
