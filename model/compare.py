@@ -77,8 +77,8 @@ def main(arguments):
     parser.add_argument("--steps", type=int, default=3_000, help="records of a guided input")
     parser.add_argument("--first", type=int, default=1_000, help="the first seed")
     parser.add_argument("--raw", type=int, default=0, help="inputs of random bytes of each kind")
-    parser.add_argument("--place", default="target/bin/rehearse_place", help="program for places")
-    parser.add_argument("--mag", default="target/bin/rehearse_mag", help="program for magnitudes")
+    parser.add_argument("--place", default="crates/rehearse_place/out/rehearse_place", help="program for places")
+    parser.add_argument("--mag", default="crates/rehearse_mag/out/rehearse_mag", help="program for magnitudes")
     options = parser.parse_args(arguments)
     programs = {name: ROOT / getattr(options, name) for name in KINDS}
     for program in programs.values():
