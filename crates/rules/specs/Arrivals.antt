@@ -1,5 +1,5 @@
 -- The step deliver: what each kind of message does where it arrives. What is dropped alters nothing.
-use Rattle.std.specs.Prelude.{ℕ, Bool, cond, length, Some, None, Ok, Err, Option, Result, ◌==◌, nat_le}
+use Rattle.std.specs.Prelude.{ℕ, Bool, cond, length, Ok, Err, Result, ◌==◌, nat_le}
 use Rattle.entries.specs.declared.entry.Stamp.{Stamp}
 use Rattle.raft_log.specs.declared.fault.LogFault.TheVariants.{NotCommitted}
 use Rattle.relay.specs.declared.message.Outcome.{Outcome}
@@ -19,21 +19,12 @@ use Rattle.state.specs.declared.fault.ServiceFault.TheVariants.{NoSuch, Leader, 
 use Rattle.state.specs.Memory.{message_at}
 use Rattle.rules.specs.declared.effect.Effect.{Effect}
 use Rattle.rules.specs.declared.effect.Effect.TheVariants.{Done, Dropped, Answered}
-use Rattle.rules.specs.declared.effect.Reaction.{Reaction}
-use Rattle.rules.specs.declared.effect.Reaction.TheVariants.{Sends, Answers, Ends}
+use Rattle.delivery.specs.declared.react.Reaction.{Reaction}
+use Rattle.delivery.specs.declared.react.Reaction.TheVariants.{Sends, Answers, Ends}
+use Rattle.delivery.specs.Kinds.{sending as passed, sending_any as replying}
 use Rattle.rules.specs.Whole.{Open, Whole, with_logs, with_lead, with_relay, with_messages, sending, without}
 use Rattle.rules.specs.Whole.Open.{idle, reading, correcting}
 use Rattle.rules.specs.Steps.{unseated, asking}
-
--- a message that was sent on, or the fault passed up
-abbrev pub passed : {V E : Type 0} → (E → ServiceFault) → Result (Message V) E → Result (Reaction V) ServiceFault
-passed f (Ok m) = Ok (Sends m)
-passed f (Err e) = Err (f e)
-
--- a reply is sent, or the message ends here
-abbrev pub replying : {V : Type 0} → Option (Message V) → Reaction V
-replying None = Ends
-replying (Some m) = Sends m
 
 module _ {V : Type 0} where
   -- read request, at the relay: 20

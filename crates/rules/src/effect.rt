@@ -1,5 +1,4 @@
 use client::Answer;
-use relay::Message;
 use state::ServiceFault;
 
 // What came of a step that was not refused: it is done, with a number; the message was dropped; or
@@ -13,12 +12,4 @@ pub enum Effect<V> {
         number: u16,
         answer: Answer<V>,
     },
-}
-
-// What a delivered message brings about: a new message, an answer that its client takes, or nothing more.
-#[derive(Drop)]
-pub enum Reaction<V> {
-    Sends(Message<V>),
-    Answers(Answer<V>),
-    Ends,
 }

@@ -4,4 +4,4 @@
 
 mod effect;
 
-pub use effect::{Effect, Reaction};
+pub use effect::Effect;
