@@ -1,5 +1,5 @@
 -- Tests and sets over the first numbers, one number more.
-use Rattle.std.proofs.Common.{◌≡◌, ℕ, zero, suc, ◌+◌, ◌*◌, ◌^◌, ◌<◌, ◌≤◌, Bool, true, false, cond, ◌&&◌, ltb, ◌⊎◌, sym, refl, ap, ◌∙◌, inl, inr, add-zero, pow-suc, zero-add, add-one, arith}
+use Rattle.std.proofs.Common.{◌≡◌, ℕ, zero, suc, ◌+◌, ◌*◌, ◌^◌, ◌<◌, ◌≤◌, Bool, true, false, cond, ltb, ◌⊎◌, sym, ap, ◌∙◌, inl, inr, add-zero, pow-suc, zero-add, add-one, arith}
 use Rattle.std.proofs.lemmas.Bool.Decides.{nat_tests}
 use Rattle.std.proofs.lemmas.Bool.{and_parts}
 use Rattle.std.proofs.lemmas.Nat.{pow_pos}
@@ -8,26 +8,6 @@ use Rattle.copies.specs.Questions.{greatest}
 
 split : (k n : ℕ) → k < suc n → (k < n) ⊎ (k ≡ n)
 split k n h = grind arith
-
-and_false : (a : Bool) → (a && false) ≡ false
-and_false true = refl
-and_false false = refl
-
-pub no_true : false ≡ true → ⊥
-no_true e = let z : ◌≡◌ {A = ℕ} 0 1 = cc in omega arith
-
-pub all_more : (p : ℕ → Bool) (i : ℕ) → all_below p i ≡ true → p i ≡ true → all_below p (i + 1) ≡ true
-all_more p i a e = rw (add-one, a, e)
-
-pub all_fails : (p : ℕ → Bool) (i n : ℕ) → i < n → p i ≡ false → all_below p n ≡ false
-all_fails p i zero h e = absurd (omega arith)
-all_fails p i (suc n) h e = elim (split i n h) [
-  | inl k ↦ rw (all_fails p i n k e)
-  | inr k ↦ rw (← k, e) (and_false (all_below p i))
-]
-
-pub all_done : (p : ℕ → Bool) (i n : ℕ) → i ≡ n → all_below p i ≡ true → true ≡ all_below p n
-all_done p i n e a = sym (rw e at a)
 
 -- what all numbers below n pass, each of them passes
 pub all_each : (p : ℕ → Bool) (n : ℕ) → all_below p n ≡ true → (k : ℕ) → k < n → p k ≡ true

@@ -1,4 +1,5 @@
 pub mod Below
 pub mod Questions
+pub mod Seen
 pub mod Shape
 pub mod View

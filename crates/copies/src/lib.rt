@@ -3,6 +3,8 @@
 
 mod logs;
 mod questions;
+mod replicas;
 mod shape;
 
 pub use logs::Logs;
+pub use replicas::Replicas;

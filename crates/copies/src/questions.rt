@@ -1,9 +1,10 @@
 ghost use Rattle.std.specs.Prelude.{◌≡◌, ℕ, ◌<◌, ◌≤◌, length, slice_index};
-ghost use Rattle.copies.specs.Shape.{Shaped};
-ghost use Rattle.copies.specs.View.{view_of};
+ghost use Rattle.copies.specs.View.{log_of};
 ghost use Rattle.copies.specs.Questions.{greatest, objects_to, none_newer, known_log, ready, holds_of, holders, holds_committed};
+ghost use Rattle.copies.specs.Seen.{seen};
 
 use crate::logs::Logs;
+use crate::replicas::Replicas;
 use entries::Entry;
 use kinds::RecordKind;
 
@@ -22,73 +23,76 @@ impl Logs {
         }
         best
     }
+}
+
+impl<'a, V: RecordKind> Replicas<'a, V> {
+    // Copy r's log.
+    pub fn log(&self, r: u8) -> &'a [Entry<V>]
+        requires { r < self.now.logs.now.copies }
+        ensures value { result.now ≡ log_of self.now.logs.now self.now.entries.now r }
+        ensures len { length result.now ≡ slice_index self.now.logs.now.lengths r }
+        ensures bound { length result.now ≤ 4096 }
+    {
+        let at = r as usize * self.logs.capacity as usize;
+        let n = self.logs.lengths[r as usize] as usize;
+        &self.entries[at..at + n]
+    }
 
     // Whether copy r votes, and its log is newer than the candidate's.
-    fn objects<V: RecordKind>(&self, entries: &[Entry<V>], candidate: u8, voters: u8, r: u8) -> bool
-        requires shape { Shaped self.now (length entries.now) }
-        requires copy { candidate < self.now.copies }
-        requires voter { r < self.now.copies }
-        ensures { result ≡ objects_to (view_of self.now entries.now) candidate voters r }
+    fn objects(&self, candidate: u8, voters: u8, r: u8) -> bool
+        requires copy { candidate < self.now.logs.now.copies }
+        requires voter { r < self.now.logs.now.copies }
+        ensures { result ≡ objects_to (seen self.now) candidate voters r }
     {
-        let newer = entries::is_newer(self.log(entries, r), self.log(entries, candidate));
+        let newer = entries::is_newer(self.log(r), self.log(candidate));
         votes::has(voters, r) & newer
     }
 
     // Whether no voter's log is newer than the candidate's.
-    pub fn none_newer<V: RecordKind>(&self, entries: &[Entry<V>], candidate: u8, voters: u8) -> bool
-        requires shape { Shaped self.now (length entries.now) }
-        requires copy { candidate < self.now.copies }
-        ensures { result ≡ none_newer (view_of self.now entries.now) candidate voters }
+    pub fn none_newer(&self, candidate: u8, voters: u8) -> bool
+        requires { candidate < self.now.logs.now.copies }
+        ensures { result ≡ none_newer (seen self.now) candidate voters }
     {
-        for r in 0..self.copies {
-            if self.objects(entries, candidate, voters, r) {
-                return false;
-            }
-        }
-        true
+        !(0..self.logs.copies).any(|r| self.objects(candidate, voters, r))
     }
 
     // The entries of copy r that it knows to be committed.
-    pub fn known_log<'a, V: RecordKind>(&self, entries: &'a [Entry<V>], r: u8) -> &'a [Entry<V>]
-        requires shape { Shaped self.now (length entries.now) }
-        requires copy { r < self.now.copies }
-        ensures value { result.now ≡ known_log (view_of self.now entries.now) r }
+    pub fn known_log(&self, r: u8) -> &'a [Entry<V>]
+        requires { r < self.now.logs.now.copies }
+        ensures value { result.now ≡ known_log (seen self.now) r }
         ensures bound { length result.now ≤ 4096 }
     {
-        entries::front(self.log(entries, r), self.known[r as usize])
+        entries::front(self.log(r), self.logs.known[r as usize])
     }
 
     // Whether the last entry within the leader's known count has the present term.
-    pub fn ready<V: RecordKind>(&self, entries: &[Entry<V>], leader: u8) -> bool
-        requires shape { Shaped self.now (length entries.now) }
-        requires copy { leader < self.now.copies }
-        ensures { result ≡ ready (view_of self.now entries.now) leader }
+    pub fn ready(&self, leader: u8) -> bool
+        requires { leader < self.now.logs.now.copies }
+        ensures { result ≡ ready (seen self.now) leader }
     {
-        let term = entries::last_term(self.known_log(entries, leader));
-        (self.known[leader as usize] > 0) & (term == self.term)
+        let term = entries::last_term(self.known_log(leader));
+        (self.logs.known[leader as usize] > 0) & (term == self.logs.term)
     }
 
     // Whether copy r holds the first n entries of copy a.
-    fn holds<V: RecordKind>(&self, entries: &[Entry<V>], a: u8, n: u16, r: u8) -> bool
-        requires shape { Shaped self.now (length entries.now) }
-        requires copy { a < self.now.copies }
-        requires other { r < self.now.copies }
-        requires within { n ≤ slice_index self.now.lengths a }
-        ensures { result ≡ holds_of V.RecordKind.alike (view_of self.now entries.now) a n r }
+    fn holds(&self, a: u8, n: u16, r: u8) -> bool
+        requires copy { a < self.now.logs.now.copies }
+        requires other { r < self.now.logs.now.copies }
+        requires within { n ≤ slice_index self.now.logs.now.lengths a }
+        ensures { result ≡ holds_of V.RecordKind.alike (seen self.now) a n r }
     {
-        entries::holds(self.log(entries, a), self.log(entries, r), n)
+        entries::holds(self.log(a), self.log(r), n)
     }
 
     // The copies that hold the leader's first n entries.
-    pub fn holders<V: RecordKind>(&self, entries: &[Entry<V>], leader: u8, n: u16) -> u8
-        requires shape { Shaped self.now (length entries.now) }
-        requires copy { leader < self.now.copies }
-        requires within { n ≤ slice_index self.now.lengths leader }
-        ensures { result ≡ holders V.RecordKind.alike (view_of self.now entries.now) leader n }
+    pub fn holders(&self, leader: u8, n: u16) -> u8
+        requires copy { leader < self.now.logs.now.copies }
+        requires within { n ≤ slice_index self.now.logs.now.lengths leader }
+        ensures { result ≡ holders V.RecordKind.alike (seen self.now) leader n }
     {
         let mut found = 0u8;
-        for r in 0..self.copies {
-            if self.holds(entries, leader, n, r) {
+        for r in 0..self.logs.copies {
+            if self.holds(leader, n, r) {
                 found += 1 << r;
             }
         }
@@ -96,15 +100,14 @@ impl Logs {
     }
 
     // Whether copy r's first n entries are the committed log's.
-    pub fn holds_committed<V: RecordKind>(&self, entries: &[Entry<V>], r: u8, n: u16) -> bool
-        requires shape { Shaped self.now (length entries.now) }
-        requires copy { r < self.now.copies }
-        ensures { result ≡ holds_committed V.RecordKind.alike (view_of self.now entries.now) r n }
+    pub fn holds_committed(&self, r: u8, n: u16) -> bool
+        requires { r < self.now.logs.now.copies }
+        ensures { result ≡ holds_committed V.RecordKind.alike (seen self.now) r n }
     {
-        let best = self.best_known();
-        if n > self.known[best as usize] {
+        let best = self.logs.best_known();
+        if n > self.logs.known[best as usize] {
             return false;
         }
-        self.holds(entries, best, n, r)
+        self.holds(best, n, r)
     }
 }

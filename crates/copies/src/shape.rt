@@ -1,9 +1,9 @@
 ghost use Rattle.std.specs.Prelude.{◌≡◌, ℕ, ◌+◌, ◌*◌, ◌<◌, ◌≤◌, true, length, slice_index};
 ghost use Rattle.copies.specs.Below.{all_below};
 ghost use Rattle.copies.specs.Shape.{new_logs, count_fits, led_within, shaped, SevenPlaces, Shaped};
-ghost use Rattle.copies.specs.View.{log_of};
 
 use crate::logs::Logs;
+use crate::replicas::Replicas;
 use entries::Entry;
 use kinds::RecordKind;
 
@@ -38,12 +38,7 @@ impl Logs {
         ensures value { result ≡ all_below (count_fits self.now) self.now.copies }
         ensures places { result ≡ true → SevenPlaces self.now }
     {
-        for k in 0..self.copies {
-            if !self.count_fits(k) {
-                return false;
-            }
-        }
-        true
+        (0..self.copies).all(|k| self.count_fits(k))
     }
 
     // Whether the leader, if there is one, is a copy.
@@ -76,27 +71,16 @@ impl Logs {
         self.counts_fit()
     }
 
-    // How many entries copy r's log has.
-    fn length_of(&self, n: usize, r: u8) -> usize
-        requires shape { Shaped self.now n }
-        requires copy { r < self.now.copies }
-        ensures value { result ≡ slice_index self.now.lengths r }
-        ensures bound { result ≤ self.now.capacity }
+    // The logs with the slice that they lie in.
+    pub fn over<'a, V: RecordKind>(&'a self, entries: &'a [Entry<V>]) -> Replicas<'a, V>
+        requires { Shaped self.now (length entries.now) }
+        ensures logs { result.logs.now ≡ self.now }
+        ensures entries { result.entries.now ≡ entries.now }
     {
-        self.lengths[r as usize] as usize
-    }
-
-    // Copy r's log.
-    pub fn log<'a, V: RecordKind>(&self, entries: &'a [Entry<V>], r: u8) -> &'a [Entry<V>]
-        requires shape { Shaped self.now (length entries.now) }
-        requires copy { r < self.now.copies }
-        ensures value { result.now ≡ log_of self.now entries.now r }
-        ensures len { length result.now ≡ slice_index self.now.lengths r }
-        ensures bound { length result.now ≤ 4096 }
-    {
-        let at = r as usize * self.capacity as usize;
-        let n = self.length_of(entries.len(), r);
-        &entries[at..at + n]
+        Replicas {
+            logs: self,
+            entries,
+        }
     }
 
     // Where entry i of copy r lies, counted from 0.

@@ -3,7 +3,7 @@ ghost use Rattle.copies.specs.Shape.{Shaped};
 ghost use Rattle.raft_log.specs.Calls.{leader_in, put_step, append_step, next_of, copy_step, blank_entry, entry_known, rise_step};
 
 use crate::fault::LogFault;
-use copies::Logs;
+use copies::{Logs, Replicas};
 use entries::Entry;
 use kinds::RecordKind;
 
@@ -13,10 +13,7 @@ pub fn leader_of(logs: &Logs) -> Result<u8, LogFault>
     ensures value { result ≡ leader_in logs.now.leader }
     ensures bound { IfOk result (λ a. a < logs.now.copies) }
 {
-    match logs.leader {
-        Some(leader) => Ok(leader),
-        None => Err(LogFault::NoLeader),
-    }
+    logs.leader.ok_or(LogFault::NoLeader)
 }
 
 // Puts the entry into copy r's log at a place, counted from 0, where the log then ends; the answer
@@ -63,10 +60,8 @@ fn next_entry<V: RecordKind>(led: &[Entry<V>], log: &[Entry<V>]) -> Option<(usiz
     ensures bound { IfSome result (λ p. p.0 < length led.now) }
 {
     let at = entries::first_gap(led, log);
-    if at >= led.len() {
-        return None;
-    }
-    Some((at, led[at]))
+    let e = led.get(at)?;
+    Some((at, *e))
 }
 
 // The leader's entry goes to copy r where r's log ends or has another term, and r's log then ends
@@ -81,7 +76,8 @@ pub fn copy_step<V: RecordKind>(
     ensures { (logs.new, entries.new, result) ≡ copy_step V.RecordKind.blank_value logs.old entries.old r }
 {
     let leader = leader_of(logs)?;
-    let found = next_entry(logs.log(entries, leader), logs.log(entries, r));
+    let copies = logs.over(entries);
+    let found = next_entry(copies.log(leader), copies.log(r));
     let Some((at, e)) = found else {
         return Err(LogFault::NothingToCopy);
     };
@@ -97,21 +93,15 @@ fn entry_at<V: RecordKind>(log: &[Entry<V>], at: usize) -> Entry<V>
 }
 
 // Copy a's entry i, counted from 1, within its known count.
-pub fn entry_known<V: RecordKind>(
-    logs: &Logs,
-    entries: &[Entry<V>],
-    a: u8,
-    i: u32,
-) -> Result<Entry<V>, LogFault>
-    requires shape { Shaped logs.now (length entries.now) }
-    requires copy { a < logs.now.copies }
-    ensures value { result ≡ entry_known V.RecordKind.blank_value logs.now entries.now a i }
-    ensures bound { OnOk result (i ≤ slice_index logs.now.known a) }
+pub fn entry_known<V: RecordKind>(copies: &Replicas<V>, a: u8, i: u32) -> Result<Entry<V>, LogFault>
+    requires { a < copies.now.logs.now.copies }
+    ensures value { result ≡ entry_known V.RecordKind.blank_value copies.now.logs.now copies.now.entries.now a i }
+    ensures bound { OnOk result (i ≤ slice_index copies.now.logs.now.known a) }
 {
-    if i == 0 || i > logs.known[a as usize] as u32 {
+    if i == 0 || i > copies.logs.known[a as usize] as u32 {
         return Err(LogFault::CountOutOfRange);
     }
-    Ok(entry_at(logs.log(entries, a), i as usize - 1))
+    Ok(entry_at(copies.log(a), i as usize - 1))
 }
 
 // Copy r's known count rises to n, if lower, where its first n entries are the committed log's.
@@ -125,7 +115,7 @@ pub fn rise_step<V: RecordKind>(
     requires copy { r < logs.old.copies }
     ensures { (logs.new, result) ≡ rise_step V.RecordKind.alike logs.old entries.now r n }
 {
-    if !logs.holds_committed(entries, r, n) {
+    if !logs.over(entries).holds_committed(r, n) {
         return Err(LogFault::NotCommitted);
     }
     logs.known[r as usize] = logs.known[r as usize].max(n);

@@ -24,7 +24,7 @@ pub fn elect_step<V: RecordKind, R: VoteRule>(
     if !rule.enough_to_elect(voters) {
         return Err(LogFault::VotersNotEnough);
     }
-    if !logs.none_newer(entries, candidate, voters) {
+    if !logs.over(entries).none_newer(candidate, voters) {
         return Err(LogFault::VoterNewer);
     }
     if logs.term == 65535 {
@@ -50,10 +50,11 @@ pub fn commit_step<V: RecordKind, R: VoteRule>(
         return Err(LogFault::CountOutOfRange);
     }
     let count = n as u16;
-    if entries::last_term(entries::front(logs.log(entries, leader), count)) != logs.term {
+    let log = logs.over(entries).log(leader);
+    if entries::last_term(entries::front(log, count)) != logs.term {
         return Err(LogFault::OtherTerm);
     }
-    if !rule.enough_to_commit(logs.holders(entries, leader, count)) {
+    if !rule.enough_to_commit(logs.over(entries).holders(leader, count)) {
         return Err(LogFault::HoldersNotEnough);
     }
     logs.known[leader as usize] = count;

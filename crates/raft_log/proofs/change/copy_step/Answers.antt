@@ -1,7 +1,9 @@
-use Rattle.std.proofs.Common.{arith}
+use Rattle.std.proofs.Common.{slice_index, ap, arith}
+use Rattle.copies.specs.declared.logs.Logs.{Logs}
 use Rattle.raft_log.proofs.change.copy_step.Goals as goal
 
 pub put_entry-requires : goal.put_entry-requires
 put_entry-requires g c =
     let h = c.in_ok-leader.ensures.bound in
-    record { shape = c.requires.shape; copy = c.requires.copy; within = omega (arith, c.requires.shape.inside _ h, c.in-Some.ensures.bound, c.log.ensures.len) }
+    let same = ap (λ (l : Logs). slice_index l.lengths c.in_ok-leader.leader) c.over-copies.ensures.logs in
+    record { shape = c.requires.shape; copy = c.requires.copy; within = omega (arith, c.requires.shape.inside _ h, c.in-Some.ensures.bound, c.log.ensures.len, same) }

@@ -1,19 +1,12 @@
-use Rattle.std.proofs.Common.{sym, arith}
+use Rattle.std.proofs.Common.{rules, tests, ◌∙◌, refl, arith}
+use Rattle.std.proofs.lemmas.Iterator.{YieldsList-from_range}
+use Rattle.std.proofs.lemmas.Iterator.Search.{all_from_yields_List}
 use Rattle.copies.specs.Shape.{count_fits}
-use Rattle.copies.proofs.Below.{all_more, all_fails, all_done, no_true}
+use Rattle.copies.proofs.Chains.{all_of_range}
 use Rattle.copies.proofs.logs.Logs.counts_fit.Goals as goal
 
-pub returns-then-not-count_fits : goal.returns-then-not-count_fits
-returns-then-not-count_fits c = record {
-  value = sym (all_fails (count_fits c.args.self.now) c.loop-k.k c.args.self.now.copies (omega arith) (sym c.if-not-count_fits.ensures.value));
-  places = λ t. absurd (no_true t);
-}
-
-pub loop-k-preserved : goal.loop-k-preserved
-loop-k-preserved c = (all_more (count_fits c.args.self.now) c.loop-k.k c.loop-k.invariant.0 (sym c.if-not-count_fits.ensures.value), λ _. c.if-not-count_fits.ensures.places)
-
-pub returns : goal.returns
-returns c = record {
-  value = all_done (count_fits c.args.self.now) c.loop-k.k c.args.self.now.copies (omega arith) c.loop-k.invariant.0;
-  places = λ t. c.loop-k.invariant.1 (omega arith);
-}
+pub returns-clause-value : goal.returns-clause-value
+returns-clause-value c =
+    let n = c.args.self.now.copies in
+    all_from_yields_List (count_fits c.args.self.now) _ _ _ c.all.ensures.ran (YieldsList-from_range 0 n n refl (omega arith)) (λ x b q k. search (rules, tests))
+    ∙ all_of_range (count_fits c.args.self.now) n

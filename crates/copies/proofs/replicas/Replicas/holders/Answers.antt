@@ -1,15 +1,15 @@
 use Rattle.std.proofs.Common.{ℕ, ◌+◌, Bool, ap, ◌∙◌, arith}
 use Rattle.std.proofs.lemmas.Nat.{one_shl}
-use Rattle.copies.specs.View.{view_of}
+use Rattle.copies.specs.Seen.{seen}
 use Rattle.copies.specs.Questions.{holds_of}
 use Rattle.copies.proofs.Below.{mask_yes, mask_no}
-use Rattle.copies.proofs.logs.Logs.holders.Goals as goal
-use Rattle.copies.proofs.logs.Logs.holders.Goals.{then-holds, else-holds}
+use Rattle.copies.proofs.replicas.Replicas.holders.Goals as goal
+use Rattle.copies.proofs.replicas.Replicas.holders.Goals.{then-holds, else-holds}
 
 pub loop-r-preserved : goal.loop-r-preserved
 loop-r-preserved g c =
-    let p : ℕ → Bool = holds_of g.V.RecordKind.alike (view_of c.args.self.now c.args.entries.now) c.args.leader c.args.n in
-    let k = one_shl c.loop-r.r 8 (omega (arith, c.requires.shape.few)) in
+    let p : ℕ → Bool = holds_of g.V.RecordKind.alike (seen c.args.self.now) c.args.leader c.args.n in
+    let k = one_shl c.loop-r.r 8 (omega (arith, c.args.self.now.shaped.few)) in
     elim c.if-holds.branch [
       | then-holds w ↦
           let m = mask_yes p c.loop-r.r c.loop-r.found c.loop-r.invariant.0 c.loop-r.invariant.1 w.if-holds.ensures in

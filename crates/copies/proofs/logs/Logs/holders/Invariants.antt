@@ -1,8 +1,0 @@
-use Rattle.std.proofs.Common.{◌≡◌, ◌^◌, ◌<◌}
-use Rattle.copies.specs.Below.{mask}
-use Rattle.copies.specs.View.{view_of}
-use Rattle.copies.specs.Questions.{holds_of}
-use Rattle.copies.proofs.logs.Logs.holders.Given as goal
-
-abbrev pub invariant-loop-r : goal.invariant-loop-r
-invariant-loop-r g l = (l.found ≡ mask (holds_of g.V.RecordKind.alike (view_of l.self l.entries) l.leader l.n) l.r) × (l.found < 2 ^ l.r)
