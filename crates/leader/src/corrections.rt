@@ -5,7 +5,7 @@ ghost use Rattle.leader.specs.Corrections.{told, lawful_value, correction_step, 
 use crate::fault::LeaderFault;
 use crate::lead::Lead;
 use crate::sessions::{present_leader, session_of};
-use copies::Logs;
+use copies::{Logs, Replicas};
 use entries::{Entry, Sought, Stamp};
 use kinds::RecordKind;
 use relay::{Body, Message, Outcome};
@@ -65,7 +65,8 @@ pub fn correction<V: RecordKind>(
         client: m.client,
         number: m.number,
     };
-    let index = entries::last_index(logs.log(entries, leader), sought);
+    let log = logs.over(entries).log(leader);
+    let index = entries::last_index(log, sought);
     if index > logs.known[leader as usize] {
         return Err(LeaderFault::Uncommitted);
     }
@@ -99,7 +100,8 @@ pub fn installed<V: RecordKind>(
     ensures { (logs.new, entries.new, result) ≡ installed_step V.RecordKind.blank_value logs.old lead.now entries.old session }
 {
     let leader = present_leader(logs, lead, session)?;
-    if entries::last_index(logs.log(entries, leader), Sought::Term(logs.term)) > 0 {
+    let begun = Sought::Term(logs.term);
+    if entries::last_index(logs.over(entries).log(leader), begun) > 0 {
         return Err(LeaderFault::TermBegun);
     }
     let e = Entry {
@@ -116,21 +118,20 @@ pub fn installed<V: RecordKind>(
 
 // The fresh reply for the leader's entry i, with the copies that hold i entries.
 pub fn reply<V: RecordKind>(
-    logs: &Logs,
+    copies: &Replicas<V>,
     lead: &Lead,
-    entries: &[Entry<V>],
     i: u32,
 ) -> Result<Message<V>, LeaderFault>
-    requires shape { Shaped logs.now (length entries.now) }
-    ensures { result ≡ reply_step V.RecordKind.blank_value V.RecordKind.alike logs.now lead.now entries.now i }
+    ensures { result ≡ reply_step V.RecordKind.blank_value V.RecordKind.alike copies.now.logs.now lead.now copies.now.entries.now i }
 {
+    let logs = copies.logs;
     let leader = raft_log::leader_of(logs)?;
-    let e = raft_log::entry_known(logs, entries, leader, i)?;
+    let e = raft_log::entry_known(copies, leader, i)?;
     if (e.star == 0) | (e.stamp.session != session_of(logs.term, lead.part)) {
         return Err(LeaderFault::NoReply);
     }
     let index = i as u16;
-    let holders = logs.holders(entries, leader, index);
+    let holders = copies.holders(leader, index);
     Ok(Message {
         client: e.client,
         number: e.number,

@@ -5,7 +5,7 @@ ghost use Rattle.leader.specs.Reads.{found, copy_read, leader_read};
 use crate::fault::LeaderFault;
 use crate::lead::Lead;
 use crate::sessions::present_leader;
-use copies::Logs;
+use copies::{Logs, Replicas};
 use entries::Entry;
 use kinds::RecordKind;
 use relay::{Body, Message};
@@ -38,7 +38,7 @@ pub fn copy_read<V: RecordKind>(
     ensures { (logs.new, result) ≡ copy_read V.RecordKind.alike logs.old entries.now m.now copy index }
 {
     raft_log::rise(logs, entries, copy, index)?;
-    let known = logs.known_log(entries, copy);
+    let known = logs.over(entries).known_log(copy);
     let stamp = entries::zone_stamp(known, (m.star / 4096) as u8);
     let value = entries::last_value(known, m.star);
     Ok(read_reply(m, Body::CopyReply { copy, stamp }, value))
@@ -46,18 +46,16 @@ pub fn copy_read<V: RecordKind>(
 
 // The leader answers a reading, once it is ready.
 pub fn leader_read<V: RecordKind>(
-    logs: &Logs,
+    copies: &Replicas<V>,
     lead: &Lead,
-    entries: &[Entry<V>],
     m: &Message<V>,
 ) -> Result<Message<V>, LeaderFault>
-    requires shape { Shaped logs.now (length entries.now) }
-    ensures { result ≡ leader_read logs.now lead.now entries.now m.now }
+    ensures { result ≡ leader_read copies.now.logs.now lead.now copies.now.entries.now m.now }
 {
-    let leader = present_leader(logs, lead, m.session)?;
-    if !logs.ready(entries, leader) {
+    let leader = present_leader(copies.logs, lead, m.session)?;
+    if !copies.ready(leader) {
         return Err(LeaderFault::NotReady);
     }
-    let value = entries::last_value(logs.known_log(entries, leader), m.star);
+    let value = entries::last_value(copies.known_log(leader), m.star);
     Ok(read_reply(m, Body::LeaderReply, value))
 }

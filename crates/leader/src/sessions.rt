@@ -4,10 +4,11 @@ ghost use Rattle.leader.specs.Sessions.{session_of, present, zone_row, zone_rows
 
 use crate::fault::LeaderFault;
 use crate::lead::Lead;
-use copies::Logs;
-use entries::{Entry, Sought, Stamp};
+use copies::{Logs, Replicas};
+use entries::{Sought, Stamp};
 use kinds::RecordKind;
 use relay::{Row, Snapshot};
+use std::array;
 
 // A session is its term and its part, as one number.
 pub fn session_of(term: u16, part: u16) -> u32
@@ -32,19 +33,12 @@ pub fn present_leader(logs: &Logs, lead: &Lead, session: u32) -> Result<u8, Lead
 }
 
 // The zone's row in a snapshot: settled if no entry of the zone lies beyond the known count.
-fn zone_row<V: RecordKind>(
-    logs: &Logs,
-    entries: &[Entry<V>],
-    leader: u8,
-    holders: u8,
-    zone: u8,
-) -> Row
-    requires shape { Shaped logs.now (length entries.now) }
-    requires copy { leader < logs.now.copies }
-    ensures { result ≡ zone_row logs.now entries.now leader holders zone }
+fn zone_row<V: RecordKind>(copies: &Replicas<V>, leader: u8, holders: u8, zone: u8) -> Row
+    requires { leader < copies.now.logs.now.copies }
+    ensures { result ≡ zone_row copies.now.logs.now copies.now.entries.now leader holders zone }
 {
-    let known = logs.known[leader as usize];
-    if entries::last_index(logs.log(entries, leader), Sought::Zone(zone)) > known {
+    let known = copies.logs.known[leader as usize];
+    if entries::last_index(copies.log(leader), Sought::Zone(zone)) > known {
         return Row {
             settled: false,
             latest: 0,
@@ -61,37 +55,31 @@ fn zone_row<V: RecordKind>(
         latest: 0,
         index: known,
         holders,
-        stamp: entries::zone_stamp(logs.known_log(entries, leader), zone),
+        stamp: entries::zone_stamp(copies.known_log(leader), zone),
     }
 }
 
-fn zone_rows<V: RecordKind>(logs: &Logs, entries: &[Entry<V>], leader: u8, holders: u8) -> [Row; 16]
-    requires shape { Shaped logs.now (length entries.now) }
-    requires copy { leader < logs.now.copies }
-    ensures { result ≡ zone_rows logs.now entries.now leader holders }
+fn zone_rows<V: RecordKind>(copies: &Replicas<V>, leader: u8, holders: u8) -> [Row; 16]
+    requires { leader < copies.now.logs.now.copies }
+    ensures { result ≡ zone_rows copies.now.logs.now copies.now.entries.now leader holders }
 {
-    let mut rows = [zone_row(logs, entries, leader, holders, 0); 16];
-    for zone in 0..16u8 {
-        rows[zone as usize] = zone_row(logs, entries, leader, holders, zone);
-    }
-    rows
+    array::from_fn(|zone| zone_row(copies, leader, holders, zone as u8))
 }
 
 // The leader opens its next session; the answer is the session's snapshot.
 pub fn open_session<V: RecordKind>(
-    logs: &Logs,
+    copies: &Replicas<V>,
     lead: &mut Lead,
-    entries: &[Entry<V>],
 ) -> Result<Snapshot, LeaderFault>
-    requires shape { Shaped logs.now (length entries.now) }
-    ensures { (lead.new, result) ≡ open_step V.RecordKind.alike logs.now lead.old entries.now }
+    ensures { (lead.new, result) ≡ open_step V.RecordKind.alike copies.now.logs.now lead.old copies.now.entries.now }
 {
+    let logs = copies.logs;
     let leader = raft_log::leader_of(logs)?;
     if lead.part == 65535 {
         return Err(LeaderFault::PartsUsedUp);
     }
-    let holders = logs.holders(entries, leader, logs.known[leader as usize]);
-    let rows = zone_rows(logs, entries, leader, holders);
+    let holders = copies.holders(leader, logs.known[leader as usize]);
+    let rows = zone_rows(copies, leader, holders);
     lead.part = lead.part + 1;
     lead.last = 0;
     let session = session_of(logs.term, lead.part);
