@@ -15,10 +15,6 @@ fn tell<V: RecordKind>(m: &Message<V>, sequence: u16, outcome: Outcome, index: u
     ensures { result ≡ told m.now sequence outcome index }
 {
     Message {
-        client: m.client,
-        number: m.number,
-        star: m.star,
-        session: m.session,
         body: Body::CorrectionReply {
             sequence,
             outcome,
@@ -30,6 +26,7 @@ fn tell<V: RecordKind>(m: &Message<V>, sequence: u16, outcome: Outcome, index: u
             },
         },
         value: None,
+        ..*m
     }
 }
 
@@ -37,10 +34,7 @@ fn tell<V: RecordKind>(m: &Message<V>, sequence: u16, outcome: Outcome, index: u
 fn lawful_value<V: RecordKind>(m: &Message<V>) -> Option<V>
     ensures { result ≡ lawful_value V.RecordKind.lawful m.now.value }
 {
-    match m.value {
-        Some(v) if v.is_lawful() => Some(v),
-        _ => None,
-    }
+    m.value.filter(|v| v.is_lawful())
 }
 
 // A correction is appended under the leader's session, unless it is unlawful or in the log already.

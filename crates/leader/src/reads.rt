@@ -14,14 +14,7 @@ use relay::{Body, Message};
 fn read_reply<V: RecordKind>(m: &Message<V>, body: Body, value: Option<V>) -> Message<V>
     ensures { result ≡ found m.now body value }
 {
-    Message {
-        client: m.client,
-        number: m.number,
-        star: m.star,
-        session: m.session,
-        body,
-        value,
-    }
+    Message { body, value, ..*m }
 }
 
 // A copy answers a reading from the entries that it knows to be committed, its known count having

@@ -23,9 +23,7 @@ pub fn present_leader(logs: &Logs, lead: &Lead, session: u32) -> Result<u8, Lead
     ensures value { result ≡ present logs.now lead.now session logs.now.leader }
     ensures bound { IfOk result (λ a. a < logs.now.copies) }
 {
-    let Some(leader) = logs.leader else {
-        return Err(LeaderFault::OtherSession);
-    };
+    let leader = logs.leader.ok_or(LeaderFault::OtherSession)?;
     if session != session_of(logs.term, lead.part) {
         return Err(LeaderFault::OtherSession);
     }

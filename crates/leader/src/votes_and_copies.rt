@@ -36,8 +36,7 @@ pub fn copy<V: RecordKind>(
     requires copy { r < logs.old.copies }
     ensures { (logs.new, entries.new, result) ≡ copy_step V.RecordKind.blank_value logs.old entries.old r }
 {
-    let length = raft_log::copy(logs, entries, r)?;
-    Ok(length)
+    Ok(raft_log::copy(logs, entries, r)?)
 }
 
 pub fn commit<V: RecordKind, R: VoteRule>(
@@ -49,6 +48,5 @@ pub fn commit<V: RecordKind, R: VoteRule>(
     requires shape { Shaped logs.old (length entries.now) }
     ensures { (logs.new, result) ≡ commit_step V.RecordKind.alike (R.VoteRule.commits rule) logs.old entries.now n }
 {
-    let count = raft_log::commit(rule, logs, entries, n)?;
-    Ok(count)
+    Ok(raft_log::commit(rule, logs, entries, n)?)
 }
