@@ -4,7 +4,7 @@ use Rattle.std.proofs.lemmas.Bool.Decides.{nat_tests}
 use Rattle.std.proofs.lemmas.Bool.{and_parts, ltb-true, leb-true}
 use Rattle.copies.specs.declared.logs.Logs.{Logs}
 use Rattle.copies.specs.Below.{all_below}
-use Rattle.copies.specs.Shape.{count_fits, led_within, shaped, SevenPlaces, Shaped}
+use Rattle.copies.specs.Shape.{length_of, known_of, count_fits, led_within, shaped, SevenPlaces, Shaped}
 use Rattle.copies.proofs.Below.{all_each}
 
 led_means : (o : Option ℕ) (n : ℕ) → led_within o n ≡ true → (a : ℕ) → o ≡ Some a → a < n
@@ -33,5 +33,5 @@ module _ (l : Logs) (m : ℕ) (some : 3 ≤ l.copies) (few : l.copies ≤ 7) (on
     knows = λ k h. leb-true _ _ (parts k h).1;
   }
     where
-      parts : (k : ℕ) → k < l.copies → (leb (get_or l.lengths k 0) l.capacity ≡ true) × (leb (get_or l.known k 0) (get_or l.lengths k 0) ≡ true)
-      parts k h = and_parts (leb (get_or l.lengths k 0) l.capacity) (leb (get_or l.known k 0) (get_or l.lengths k 0)) (all_each (count_fits l) l.copies t k h)
+      parts : (k : ℕ) → k < l.copies → (leb (length_of l k) l.capacity ≡ true) × (leb (known_of l k) (length_of l k) ≡ true)
+      parts k h = and_parts (leb (length_of l k) l.capacity) (leb (known_of l k) (length_of l k)) (all_each (count_fits l) l.copies t k h)

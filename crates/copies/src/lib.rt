@@ -6,5 +6,5 @@ mod questions;
 mod replicas;
 mod shape;
 
-pub use logs::Logs;
+pub use logs::{Counts, Logs};
 pub use replicas::Replicas;

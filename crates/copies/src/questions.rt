@@ -1,4 +1,5 @@
-ghost use Rattle.std.specs.Prelude.{◌≡◌, ℕ, ◌<◌, ◌≤◌, length, slice_index};
+ghost use Rattle.std.specs.Prelude.{◌≡◌, ℕ, ◌<◌, ◌≤◌, length};
+ghost use Rattle.copies.specs.Shape.{length_of, known_of};
 ghost use Rattle.copies.specs.View.{log_of};
 ghost use Rattle.copies.specs.Questions.{greatest, objects_to, none_newer, known_log, ready, holds_of, holders, holds_committed};
 ghost use Rattle.copies.specs.Seen.{seen};
@@ -12,12 +13,12 @@ impl Logs {
     // The lowest copy whose known count is greatest.
     pub fn best_known(&self) -> u8
         requires { self.now.copies ≤ 7 }
-        ensures value { result ≡ greatest (λ r. slice_index self.now.known r) self.now.copies }
+        ensures value { result ≡ greatest (known_of self.now) self.now.copies }
         ensures bound { 0 < self.now.copies → result < self.now.copies }
     {
         let mut best = 0;
         for r in 0..self.copies {
-            if self.known[best as usize] < self.known[r as usize] {
+            if self.counts[best as usize].known < self.counts[r as usize].known {
                 best = r;
             }
         }
@@ -30,11 +31,11 @@ impl<'a, V: RecordKind> Replicas<'a, V> {
     pub fn log(&self, r: u8) -> &'a [Entry<V>]
         requires { r < self.now.logs.now.copies }
         ensures value { result.now ≡ log_of self.now.logs.now self.now.entries.now r }
-        ensures len { length result.now ≡ slice_index self.now.logs.now.lengths r }
+        ensures len { length result.now ≡ length_of self.now.logs.now r }
         ensures bound { length result.now ≤ 4096 }
     {
         let at = r as usize * self.logs.capacity as usize;
-        let n = self.logs.lengths[r as usize] as usize;
+        let n = self.logs.counts[r as usize].length as usize;
         &self.entries[at..at + n]
     }
 
@@ -62,7 +63,7 @@ impl<'a, V: RecordKind> Replicas<'a, V> {
         ensures value { result.now ≡ known_log (seen self.now) r }
         ensures bound { length result.now ≤ 4096 }
     {
-        entries::front(self.log(r), self.logs.known[r as usize])
+        entries::front(self.log(r), self.logs.counts[r as usize].known)
     }
 
     // Whether the last entry within the leader's known count has the present term.
@@ -71,14 +72,14 @@ impl<'a, V: RecordKind> Replicas<'a, V> {
         ensures { result ≡ ready (seen self.now) leader }
     {
         let term = entries::last_term(self.known_log(leader));
-        (self.logs.known[leader as usize] > 0) & (term == self.logs.term)
+        (self.logs.counts[leader as usize].known > 0) & (term == self.logs.term)
     }
 
     // Whether copy r holds the first n entries of copy a.
     fn holds(&self, a: u8, n: u16, r: u8) -> bool
         requires copy { a < self.now.logs.now.copies }
         requires other { r < self.now.logs.now.copies }
-        requires within { n ≤ slice_index self.now.logs.now.lengths a }
+        requires within { n ≤ length_of self.now.logs.now a }
         ensures { result ≡ holds_of V.RecordKind.alike (seen self.now) a n r }
     {
         entries::holds(self.log(a), self.log(r), n)
@@ -87,7 +88,7 @@ impl<'a, V: RecordKind> Replicas<'a, V> {
     // The copies that hold the leader's first n entries.
     pub fn holders(&self, leader: u8, n: u16) -> u8
         requires copy { leader < self.now.logs.now.copies }
-        requires within { n ≤ slice_index self.now.logs.now.lengths leader }
+        requires within { n ≤ length_of self.now.logs.now leader }
         ensures { result ≡ holders V.RecordKind.alike (seen self.now) leader n }
     {
         let mut found = 0u8;
@@ -105,7 +106,7 @@ impl<'a, V: RecordKind> Replicas<'a, V> {
         ensures { result ≡ holds_committed V.RecordKind.alike (seen self.now) r n }
     {
         let best = self.logs.best_known();
-        if n > self.logs.known[best as usize] {
+        if n > self.logs.counts[best as usize].known {
             return false;
         }
         self.holds(best, n, r)

@@ -2,7 +2,7 @@ ghost use Rattle.std.specs.Prelude.{◌≡◌, ℕ, ◌+◌, ◌*◌, ◌<◌, �
 ghost use Rattle.copies.specs.Below.{all_below};
 ghost use Rattle.copies.specs.Shape.{new_logs, count_fits, led_within, shaped, SevenPlaces, Shaped};
 
-use crate::logs::Logs;
+use crate::logs::{Counts, Logs};
 use crate::replicas::Replicas;
 use entries::Entry;
 use kinds::RecordKind;
@@ -15,8 +15,10 @@ impl Logs {
         Logs {
             copies,
             capacity,
-            lengths: [0; 7],
-            known: [0; 7],
+            counts: [Counts {
+                length: 0,
+                known: 0,
+            }; 7],
             term: 0,
             leader: None,
         }
@@ -28,8 +30,8 @@ impl Logs {
         ensures value { result ≡ count_fits self.now k }
         ensures places { SevenPlaces self.now }
     {
-        let length = self.lengths[k as usize];
-        (length <= self.capacity) & (self.known[k as usize] <= length)
+        let counts = self.counts[k as usize];
+        (counts.length <= self.capacity) & (counts.known <= counts.length)
     }
 
     fn counts_fit(&self) -> bool

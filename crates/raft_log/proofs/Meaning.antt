@@ -6,8 +6,9 @@ use Rattle.std.proofs.lemmas.Bool.Decides.{nat_tests}
 use Rattle.std.proofs.lemmas.List.{get_or-set_same, get_or-set_other, take-take, take-set-le, take_more_set, drop-set-add, drop-set-lt, length-drop, length-take, drop_more}
 use Rattle.entries.specs.declared.entry.Entry.{Entry}
 use Rattle.entries.specs.Fronts.{last_term, gap}
+use Rattle.copies.specs.declared.logs.Counts.{Counts}
 use Rattle.copies.specs.declared.logs.Logs.{Logs}
-use Rattle.copies.specs.Shape.{Shaped}
+use Rattle.copies.specs.Shape.{no_counts, length_of, known_of, Shaped}
 use Rattle.copies.specs.View.{log_of, View, view_of}
 use Rattle.copies.specs.Questions.{none_newer, holders, holds_committed}
 use Rattle.raft_log.specs.declared.fault.LogFault.{LogFault}
@@ -27,12 +28,36 @@ put_same f r x = let t : eqb r r ≡ true = grind (arith, nat_tests) in rw t
 put_other : {A : Type 0} (f : ℕ → A) (r : ℕ) (x : A) (q : ℕ) → (q ≡ r → ⊥) → put f r x q ≡ f q
 put_other f r x q n = let t : eqb q r ≡ false = grind (arith, nat_tests) in rw t
 
--- one number of a list set is one value of its function put
-pub get_or-put : (xs : List ℕ) (r n : ℕ) → r < length xs → (λ q. get_or (set xs r n) q 0) ≡ put (λ q. get_or xs q 0) r n
-get_or-put xs r n h = fun_ext (λ q. elim (cases_order q r) [
-  | inl k ↦ rw (k, put_same (λ q. get_or xs q 0) r n) (get_or-set_same xs r n 0 h)
-  | inr k ↦ let ne : q ≡ r → ⊥ = elim k [ inl j ↦ omega arith | inr j ↦ omega arith ] in rw (put_other (λ q. get_or xs q 0) r n q ne) (get_or-set_other xs r q n 0 ne)
+-- one item of a list set is one value of its function put
+counts_put : (xs : List Counts) (r : ℕ) (c : Counts) → r < length xs → (λ q. get_or (set xs r c) q no_counts) ≡ put (λ q. get_or xs q no_counts) r c
+counts_put xs r c h = fun_ext (λ q. elim (cases_order q r) [
+  | inl k ↦ rw (k, put_same (λ q. get_or xs q no_counts) r c) (get_or-set_same xs r c no_counts h)
+  | inr k ↦ let ne : q ≡ r → ⊥ = elim k [ inl j ↦ omega arith | inr j ↦ omega arith ] in rw (put_other (λ q. get_or xs q no_counts) r c q ne) (get_or-set_other xs r q c no_counts ne)
 ])
+
+-- a function of what is put is put
+put_of : {A B : Type 0} (h : A → B) (f : ℕ → A) (r : ℕ) (x : A) → (λ q. h (put f r x q)) ≡ put (λ q. h (f q)) r (h x)
+put_of h f r x = fun_ext (λ q. through h (eqb q r) x (f q))
+
+-- what stands there already
+put_own : {A : Type 0} (f : ℕ → A) (r : ℕ) → put f r (f r) ≡ f
+put_own f r = fun_ext (λ q. elim (cases_order q r) [
+  | inl k ↦ rw k (put_same f r (f r))
+  | inr k ↦ put_other f r (f r) q (elim k [ inl j ↦ omega arith | inr j ↦ omega arith ])
+])
+
+module _ (l : Logs) (r : ℕ) (h : r < length l.counts) where
+  length_kept : (n : ℕ) → length_of (with_known l r n) ≡ length_of l
+  length_kept n = let c : Counts = record { length = length_of l r; known = n } in
+      ap {B = ℕ → ℕ} (λ (f : ℕ → Counts) (q : ℕ). (f q).length) (counts_put l.counts r c h) ∙ put_of (λ (x : Counts). x.length) (λ q. get_or l.counts q no_counts) r c ∙ put_own (length_of l) r
+
+  known_kept : (n : ℕ) → known_of (with_length l r n) ≡ known_of l
+  known_kept n = let c : Counts = record { length = n; known = known_of l r } in
+      ap {B = ℕ → ℕ} (λ (f : ℕ → Counts) (q : ℕ). (f q).known) (counts_put l.counts r c h) ∙ put_of (λ (x : Counts). x.known) (λ q. get_or l.counts q no_counts) r c ∙ put_own (known_of l) r
+
+  known_put : (n : ℕ) → known_of (with_known l r n) ≡ put (known_of l) r n
+  known_put n = let c : Counts = record { length = length_of l r; known = n } in
+      ap {B = ℕ → ℕ} (λ (f : ℕ → Counts) (q : ℕ). (f q).known) (counts_put l.counts r c h) ∙ put_of (λ (x : Counts). x.known) (λ q. get_or l.counts q no_counts) r c
 
 -- what an outcome shows
 abbrev pub seen : {V X : Type 0} → Logs × List (Entry V) × X → View V × X
@@ -52,39 +77,42 @@ gap_short (x ∷ a) (y ∷ b) = by (eqb x.term y.term) (gap_short a b)
 
 module _ {V : Type 0} (l : Logs) (es : List (Entry V)) (s : Shaped l (length es)) where
   -- a log is as long as its number says
-  pub log_length : (r : ℕ) → r < l.copies → length (log_of l es r) ≡ get_or l.lengths r 0
+  pub log_length : (r : ℕ) → r < l.copies → length (log_of l es r) ≡ length_of l r
   log_length r h =
       let b = block_of l.copies l.capacity (length es) r h s.room in
       simp (length-take, length-drop) (omega (arith, s.inside r h))
 
   -- one entry written behind the first p of copy r's log, which then ends there
-  module _ (r p : ℕ) (e : Entry V) (copy : r < l.copies) (behind : p ≤ get_or l.lengths r 0) (room : p < l.capacity) where
+  module _ (r p : ℕ) (e : Entry V) (copy : r < l.copies) (behind : p ≤ length_of l r) (room : p < l.capacity) where
     written : (q : ℕ) → log_of (with_length l r (p + 1)) (set es (r * l.capacity + p) e) q ≡ put (log_of l es) r (take p (log_of l es r) ++ e ∷ []) q
     written q = elim (cases_order q r) [
       | inl k ↦ rw (k, put_same (log_of l es) r (take p (log_of l es r) ++ e ∷ [])) here
       | inr k ↦
           let ne : q ≡ r → ⊥ = elim k [ inl j ↦ omega arith | inr j ↦ omega arith ] in
-          rw (put_other (log_of l es) r (take p (log_of l es r) ++ e ∷ []) q ne, get_or-set_other l.lengths r q (p + 1) 0 ne) (elim k [ inl j ↦ below j | inr j ↦ above j ])
+          rw (put_other (log_of l es) r (take p (log_of l es r) ++ e ∷ []) q ne, ap (λ (x : Counts). x.length) (get_or-set_other l.counts r q ended no_counts ne)) (elim k [ inl j ↦ below j | inr j ↦ above j ])
     ]
       where
+        ended : Counts
+        ended = record { length = p + 1; known = known_of l r }
+
         block : r * l.capacity + l.capacity ≤ length es
         block = block_of l.copies l.capacity (length es) r copy s.room
 
-        here : take (get_or (set l.lengths r (p + 1)) r 0) (drop (r * l.capacity) (set es (r * l.capacity + p) e)) ≡ take p (log_of l es r) ++ e ∷ []
+        here : take (length_of (with_length l r (p + 1)) r) (drop (r * l.capacity) (set es (r * l.capacity + p) e)) ≡ take p (log_of l es r) ++ e ∷ []
         here =
-            rw (get_or-set_same l.lengths r (p + 1) 0 (omega (arith, s.few, s.places.lengths_seven, s.places.known_seven)), drop-set-add (r * l.capacity) es p e, take_more_set (drop (r * l.capacity) es) p e (simp length-drop (omega (arith, block))), take-take p (get_or l.lengths r 0) (drop (r * l.capacity) es) behind)
+            rw (ap (λ (x : Counts). x.length) (get_or-set_same l.counts r ended no_counts (omega (arith, s.few, s.places.counts_seven))), drop-set-add (r * l.capacity) es p e, take_more_set (drop (r * l.capacity) es) p e (simp length-drop (omega (arith, block))), take-take p (length_of l r) (drop (r * l.capacity) es) behind)
 
-        below : q < r → take (get_or l.lengths q 0) (drop (q * l.capacity) (set es (r * l.capacity + p) e)) ≡ take (get_or l.lengths q 0) (drop (q * l.capacity) es)
+        below : q < r → take (length_of l q) (drop (q * l.capacity) (set es (r * l.capacity + p) e)) ≡ take (length_of l q) (drop (q * l.capacity) es)
         below j =
             let a : q * l.capacity + l.capacity ≤ r * l.capacity = apart q r l.capacity j in
             let at : r * l.capacity + p ≡ q * l.capacity + (r * l.capacity + p - q * l.capacity) = omega arith in
-            rw (at, drop-set-add (q * l.capacity) es (r * l.capacity + p - q * l.capacity) e) (take-set-le (get_or l.lengths q 0) (drop (q * l.capacity) es) (r * l.capacity + p - q * l.capacity) e (omega (arith, s.inside q (omega arith))))
+            rw (at, drop-set-add (q * l.capacity) es (r * l.capacity + p - q * l.capacity) e) (take-set-le (length_of l q) (drop (q * l.capacity) es) (r * l.capacity + p - q * l.capacity) e (omega (arith, s.inside q (omega arith))))
 
-        above : r < q → take (get_or l.lengths q 0) (drop (q * l.capacity) (set es (r * l.capacity + p) e)) ≡ take (get_or l.lengths q 0) (drop (q * l.capacity) es)
+        above : r < q → take (length_of l q) (drop (q * l.capacity) (set es (r * l.capacity + p) e)) ≡ take (length_of l q) (drop (q * l.capacity) es)
         above j = rw (drop-set-lt (q * l.capacity) es (r * l.capacity + p) e (omega (arith, apart r q l.capacity j)))
 
     pub put_means : view_of (with_length l r (p + 1)) (set es (r * l.capacity + p) e) ≡ logged (view_of l es) r (take p (log_of l es r) ++ e ∷ [])
-    put_means = λ i. record { copies = l.copies; capacity = l.capacity; log = fun_ext written i; known = λ q. get_or l.known q 0; term = l.term; leader = l.leader }
+    put_means = λ i. record { copies = l.copies; capacity = l.capacity; log = fun_ext written i; known = known_kept l r (omega (arith, s.few, s.places.counts_seven)) (p + 1) i; term = l.term; leader = l.leader }
 
   -- elect
   pub elect_means : (elects : ℕ → Bool) (c v : ℕ) → seen_at es (elect_step elects l es c v) ≡ elect_move elects (view_of l es) c v
@@ -96,19 +124,19 @@ module _ {V : Type 0} (l : Logs) (es : List (Entry V)) (s : Shaped l (length es)
       ∙ ap (cond (not (none_newer (view_of l es) c v)) (view_of l es, Err VoterNewer)) (through f (eqb l.term 65535) _ _))
 
   -- append
-  append_by : (a n : ℕ) (e : Entry V) (b : Bool) → a < l.copies → n ≡ get_or l.lengths a 0 → b ≡ leb l.capacity n →
+  append_by : (a n : ℕ) (e : Entry V) (b : Bool) → a < l.copies → n ≡ length_of l a → b ≡ leb l.capacity n →
       seen (cond b (l, es, Err LogFull) (with_length l a (n + 1), set es (a * l.capacity + n) e, Ok (n + 1))) ≡
       cond {A = View V × Result ℕ LogFault} b (view_of l es, Err LogFull) (logged (view_of l es) a (log_of l es a ++ e ∷ []), Ok (n + 1))
   append_by a n e true h i t = refl
   append_by a n e false h i t =
       let k : n < l.capacity = grind (arith, nat_tests) in
-      let w : take n (log_of l es a) ≡ log_of l es a = rw (i) (take-take (get_or l.lengths a 0) (get_or l.lengths a 0) (drop (a * l.capacity) es) (omega arith)) in
+      let w : take n (log_of l es a) ≡ log_of l es a = rw (i) (take-take (length_of l a) (length_of l a) (drop (a * l.capacity) es) (omega arith)) in
       let m = put_means a n e h (omega arith) k in
       ap (λ (x : View V). (x, Ok (n + 1))) (rw w at m)
 
   pub append_means : (a : ℕ) (e : Entry V) → a < l.copies → seen (append_step l es a e) ≡ append_move (view_of l es) a e
   unfolding append_move
-  append_means a e h = rw (log_length a h) (append_by a (get_or l.lengths a 0) e (leb l.capacity (get_or l.lengths a 0)) h refl refl)
+  append_means a e h = rw (log_length a h) (append_by a (length_of l a) e (leb l.capacity (length_of l a)) h refl refl)
 
   -- copy
   copy_put_lem : (blank : V) (a r : ℕ) (b : Bool) → a < l.copies → r < l.copies → b ≡ leb (length (log_of l es a)) (gap (log_of l es a) (log_of l es r)) →
@@ -133,7 +161,7 @@ module _ {V : Type 0} (l : Logs) (es : List (Entry V)) (s : Shaped l (length es)
 
   -- a known count raised
   known_means : {X : Type 0} (r n : ℕ) (x : X) → r < l.copies → seen_at es (with_known l r n, x) ≡ (knowing (view_of l es) r n, x)
-  known_means r n x h = λ i. (record { copies = l.copies; capacity = l.capacity; log = log_of l es; known = get_or-put l.known r n (omega (arith, s.few, s.places.lengths_seven, s.places.known_seven)) i; term = l.term; leader = l.leader }, x)
+  known_means r n x h = λ i. (record { copies = l.copies; capacity = l.capacity; log = λ q. take (length_kept l r (omega (arith, s.few, s.places.counts_seven)) n i q) (drop (q * l.capacity) es); known = known_put l r (omega (arith, s.few, s.places.counts_seven)) n i; term = l.term; leader = l.leader }, x)
 
   -- commit
   commit_at_lem : (alike : V → V → Bool) (commits : ℕ → Bool) (n : ℕ) (o : Option ℕ) → ((a : ℕ) → o ≡ Some a → a < l.copies) →
@@ -142,8 +170,8 @@ module _ {V : Type 0} (l : Logs) (es : List (Entry V)) (s : Shaped l (length es)
   commit_at_lem alike commits n (Some a) led =
       let f : Logs × Result ℕ LogFault → View V × Result ℕ LogFault = seen_at es in
       rw (log_length a (led a refl)) (
-      through f (leb n (get_or l.known a 0) || ltb (get_or l.lengths a 0) n) _ _
-      ∙ ap (cond (leb n (get_or l.known a 0) || ltb (get_or l.lengths a 0) n) (view_of l es, Err CountOutOfRange)) (through f (not (eqb (last_term (take n (log_of l es a))) l.term)) _ _
+      through f (leb n (known_of l a) || ltb (length_of l a) n) _ _
+      ∙ ap (cond (leb n (known_of l a) || ltb (length_of l a) n) (view_of l es, Err CountOutOfRange)) (through f (not (eqb (last_term (take n (log_of l es a))) l.term)) _ _
       ∙ ap (cond (not (eqb (last_term (take n (log_of l es a))) l.term)) (view_of l es, Err OtherTerm)) (through f (not (commits (holders alike (view_of l es) a n))) _ _
       ∙ ap (cond (not (commits (holders alike (view_of l es) a n))) (view_of l es, Err HoldersNotEnough)) (known_means a n (Ok n) (led a refl)))))
 
@@ -157,4 +185,4 @@ module _ {V : Type 0} (l : Logs) (es : List (Entry V)) (s : Shaped l (length es)
   rise_means alike r n h =
       let f : Logs × Result (Unit {0}) LogFault → View V × Result (Unit {0}) LogFault = seen_at es in
       through f (not (holds_committed alike (view_of l es) r n)) _ _
-      ∙ ap (cond (not (holds_committed alike (view_of l es) r n)) (view_of l es, Err NotCommitted)) (known_means r (max (get_or l.known r 0) n) (Ok tt) h)
+      ∙ ap (cond (not (holds_committed alike (view_of l es) r n)) (view_of l es, Err NotCommitted)) (known_means r (max (known_of l r) n) (Ok tt) h)

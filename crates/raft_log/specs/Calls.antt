@@ -1,9 +1,10 @@
 -- What each call of the log answers, and what the logs are after it.
-use Rattle.std.specs.Prelude.{ℕ, ◌+◌, ◌-◌, ◌*◌, max, Bool, cond, not, ◌||◌, List, length, get_or, take, Some, None, Ok, Err, Option, Result, ◌==◌, nat_le, nat_lt, slice_index, slice_index_or, slice_set}
+use Rattle.std.specs.Prelude.{ℕ, ◌+◌, ◌-◌, ◌*◌, max, Bool, cond, not, ◌||◌, List, length, take, Some, None, Ok, Err, Option, Result, ◌==◌, nat_le, nat_lt, slice_index_or, slice_set}
 use Rattle.entries.specs.declared.entry.Entry.{Entry}
 use Rattle.entries.specs.Search.{no_stamp}
 use Rattle.entries.specs.Fronts.{last_term, gap}
 use Rattle.copies.specs.declared.logs.Logs.{Logs}
+use Rattle.copies.specs.Shape.{length_of, known_of}
 use Rattle.copies.specs.View.{log_of, view_of}
 use Rattle.copies.specs.Questions.{none_newer, holders, holds_committed}
 use Rattle.raft_log.specs.declared.fault.LogFault.{LogFault}
@@ -11,15 +12,15 @@ use Rattle.raft_log.specs.declared.fault.LogFault.TheVariants.{VotersNotEnough, 
 
 -- the logs with copy c as the leader of the next term
 abbrev pub with_leader : Logs → ℕ → Logs
-with_leader l c = record { copies = l.copies; capacity = l.capacity; lengths = l.lengths; known = l.known; term = l.term + 1; leader = Some c }
+with_leader l c = record { copies = l.copies; capacity = l.capacity; counts = l.counts; term = l.term + 1; leader = Some c }
 
 -- the logs with copy r's log ending after n entries
 abbrev pub with_length : Logs → ℕ → ℕ → Logs
-with_length l r n = record { copies = l.copies; capacity = l.capacity; lengths = slice_set l.lengths r n; known = l.known; term = l.term; leader = l.leader }
+with_length l r n = record { copies = l.copies; capacity = l.capacity; counts = slice_set l.counts r (record { length = n; known = known_of l r }); term = l.term; leader = l.leader }
 
 -- the logs with copy r's known count at n
 abbrev pub with_known : Logs → ℕ → ℕ → Logs
-with_known l r n = record { copies = l.copies; capacity = l.capacity; lengths = l.lengths; known = slice_set l.known r n; term = l.term; leader = l.leader }
+with_known l r n = record { copies = l.copies; capacity = l.capacity; counts = slice_set l.counts r (record { length = length_of l r; known = n }); term = l.term; leader = l.leader }
 
 -- the leader, or a refusal
 abbrev pub leader_in : Option ℕ → Result ℕ LogFault
@@ -42,7 +43,7 @@ module _ {V : Type 0} where
   -- one entry more at the end of copy a's log
   abbrev pub append_step : Logs → List (Entry V) → ℕ → Entry V → Logs × List (Entry V) × Result ℕ LogFault
   append_step l es a e =
-      let n = get_or l.lengths a 0 in
+      let n = length_of l a in
       cond (nat_le l.capacity n) (l, es, Err LogFull)
       (with_length l a (n + 1), slice_set es (a * l.capacity + n) e, Ok (n + 1))
 
@@ -50,7 +51,7 @@ module _ {V : Type 0} where
   abbrev pub commit_by : (V → V → Bool) → (ℕ → Bool) → Logs → List (Entry V) → ℕ → Option ℕ → Logs × Result ℕ LogFault
   commit_by alike commits l es n None = (l, Err NoLeader)
   commit_by alike commits l es n (Some a) =
-      cond (nat_le n (slice_index l.known a) || nat_lt (slice_index l.lengths a) n) (l, Err CountOutOfRange)
+      cond (nat_le n (known_of l a) || nat_lt (length_of l a) n) (l, Err CountOutOfRange)
       (cond (not (last_term (take n (log_of l es a)) == l.term)) (l, Err OtherTerm)
       (cond (not (commits (holders alike (view_of l es) a n))) (l, Err HoldersNotEnough)
       (with_known l a n, Ok n)))
@@ -63,7 +64,7 @@ module _ {V : Type 0} where
   abbrev pub rise_step : (V → V → Bool) → Logs → List (Entry V) → ℕ → ℕ → Logs × Result (Unit {0}) LogFault
   rise_step alike l es r n =
       cond (not (holds_committed alike (view_of l es) r n)) (l, Err NotCommitted)
-      (with_known l r (max (slice_index l.known r) n), Ok tt)
+      (with_known l r (max (known_of l r) n), Ok tt)
 
   module _ (blank : V) where
     abbrev pub blank_entry : Entry V
@@ -89,5 +90,5 @@ module _ {V : Type 0} where
     -- copy a's entry i, counted from 1, within its known count
     abbrev pub entry_known : Logs → List (Entry V) → ℕ → ℕ → Result (Entry V) LogFault
     entry_known l es a i =
-        cond (i == 0 || nat_lt (slice_index l.known a) i) (Err CountOutOfRange)
+        cond (i == 0 || nat_lt (known_of l a) i) (Err CountOutOfRange)
         (Ok (slice_index_or (log_of l es a) (i - 1) blank_entry))

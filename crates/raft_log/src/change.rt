@@ -1,5 +1,5 @@
-ghost use Rattle.std.specs.Prelude.{◌≡◌, ℕ, ◌<◌, ◌≤◌, length, IfSome, IfOk, Some, OnOk, slice_index, slice_index_or};
-ghost use Rattle.copies.specs.Shape.{Shaped};
+ghost use Rattle.std.specs.Prelude.{◌≡◌, ℕ, ◌<◌, ◌≤◌, length, IfSome, IfOk, Some, OnOk, slice_index_or};
+ghost use Rattle.copies.specs.Shape.{known_of, Shaped};
 ghost use Rattle.raft_log.specs.Calls.{leader_in, put_step, append_step, next_of, copy_step, blank_entry, entry_known, rise_step};
 
 use crate::fault::LogFault;
@@ -32,7 +32,7 @@ fn put_entry<V: RecordKind>(
 {
     let place = logs.place(entries.len(), r, at);
     entries[place] = e;
-    logs.lengths[r as usize] = at as u16 + 1;
+    logs.counts[r as usize].length = at as u16 + 1;
     at as u16 + 1
 }
 
@@ -47,7 +47,7 @@ pub fn append_step<V: RecordKind>(
     requires copy { a < logs.old.copies }
     ensures { (logs.new, entries.new, result) ≡ append_step logs.old entries.old a e }
 {
-    let n = logs.lengths[a as usize];
+    let n = logs.counts[a as usize].length;
     if n >= logs.capacity {
         return Err(LogFault::LogFull);
     }
@@ -96,9 +96,9 @@ fn entry_at<V: RecordKind>(log: &[Entry<V>], at: usize) -> Entry<V>
 pub fn entry_known<V: RecordKind>(copies: &Replicas<V>, a: u8, i: u32) -> Result<Entry<V>, LogFault>
     requires { a < copies.now.logs.now.copies }
     ensures value { result ≡ entry_known V.RecordKind.blank_value copies.now.logs.now copies.now.entries.now a i }
-    ensures bound { OnOk result (i ≤ slice_index copies.now.logs.now.known a) }
+    ensures bound { OnOk result (i ≤ known_of copies.now.logs.now a) }
 {
-    if i == 0 || i > copies.logs.known[a as usize] as u32 {
+    if i == 0 || i > copies.logs.counts[a as usize].known as u32 {
         return Err(LogFault::CountOutOfRange);
     }
     Ok(entry_at(copies.log(a), i as usize - 1))
@@ -118,6 +118,7 @@ pub fn rise_step<V: RecordKind>(
     if !logs.over(entries).holds_committed(r, n) {
         return Err(LogFault::NotCommitted);
     }
-    logs.known[r as usize] = logs.known[r as usize].max(n);
+    let known = logs.counts[r as usize].known;
+    logs.counts[r as usize].known = known.max(n);
     Ok(())
 }

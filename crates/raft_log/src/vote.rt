@@ -46,7 +46,8 @@ pub fn commit_step<V: RecordKind, R: VoteRule>(
     ensures { (logs.new, result) ≡ commit_step V.RecordKind.alike (R.VoteRule.commits rule) logs.old entries.now n }
 {
     let leader = leader_of(logs)?;
-    if (n <= logs.known[leader as usize] as u32) | (n > logs.lengths[leader as usize] as u32) {
+    let counts = logs.counts[leader as usize];
+    if (n <= counts.known as u32) | (n > counts.length as u32) {
         return Err(LogFault::CountOutOfRange);
     }
     let count = n as u16;
@@ -57,6 +58,6 @@ pub fn commit_step<V: RecordKind, R: VoteRule>(
     if !rule.enough_to_commit(logs.over(entries).holders(leader, count)) {
         return Err(LogFault::HoldersNotEnough);
     }
-    logs.known[leader as usize] = count;
+    logs.counts[leader as usize].known = count;
     Ok(n)
 }
