@@ -1,9 +1,10 @@
 -- Corrections at the leader, the opening entry of a term, and the fresh reply.
-use Rattle.std.specs.Prelude.{ℕ, Bool, cond, not, ◌||◌, List, Some, None, Ok, Err, Option, Result, ◌==◌, nat_le, nat_lt, slice_index}
+use Rattle.std.specs.Prelude.{ℕ, Bool, cond, not, ◌||◌, List, Some, None, Ok, Err, Option, Result, ◌==◌, nat_le, nat_lt}
 use Rattle.entries.specs.declared.entry.Entry.{Entry}
 use Rattle.entries.specs.declared.entry.Sought.TheVariants.{Request, Term}
 use Rattle.entries.specs.Search.{no_stamp, last_of, index_of}
 use Rattle.copies.specs.declared.logs.Logs.{Logs}
+use Rattle.copies.specs.Shape.{known_of}
 use Rattle.copies.specs.View.{log_of, view_of}
 use Rattle.copies.specs.Questions.{holders}
 use Rattle.raft_log.specs.declared.fault.LogFault.{LogFault}
@@ -46,7 +47,7 @@ module _ {V : Type 0} where
   abbrev pub correction_of : Logs → Lead → List (Entry V) → Message V → ℕ → ℕ → Option V → Logs × Lead × List (Entry V) × Result (Option (Message V)) LeaderFault
   correction_of l d es m sequence a None = (l, d, es, Ok (Some (told m sequence Unlawful 0)))
   correction_of l d es m sequence a (Some v) =
-      cond (nat_lt (slice_index l.known a) (request_index l es a m)) (l, d, es, Err Uncommitted)
+      cond (nat_lt (known_of l a) (request_index l es a m)) (l, d, es, Err Uncommitted)
       (cond (nat_lt 0 (request_index l es a m)) (l, d, es, Ok (Some (told m sequence KnownAlready (request_index l es a m))))
       (on_append d sequence (append_step l es a (entry_of l m sequence v))))
 

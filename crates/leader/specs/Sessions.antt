@@ -1,10 +1,11 @@
 -- Sessions, and the snapshot that one begins with.
-use Rattle.std.specs.Prelude.{ℕ, ◌+◌, ◌*◌, Bool, cond, List, map, Some, None, Ok, Err, Option, Result, ◌==◌, nat_lt, slice_index}
+use Rattle.std.specs.Prelude.{ℕ, ◌+◌, ◌*◌, Bool, cond, List, map, Some, None, Ok, Err, Option, Result, ◌==◌, nat_lt}
 use Rattle.std.specs.List.{range_with_len}
 use Rattle.entries.specs.declared.entry.Entry.{Entry}
 use Rattle.entries.specs.declared.entry.Sought.TheVariants.{Zone}
 use Rattle.entries.specs.Search.{last_of, index_of, zone_stamp}
 use Rattle.copies.specs.declared.logs.Logs.{Logs}
+use Rattle.copies.specs.Shape.{known_of}
 use Rattle.copies.specs.View.{log_of, view_of}
 use Rattle.copies.specs.Questions.{known_log, holders}
 use Rattle.raft_log.specs.declared.fault.LogFault.TheVariants.{NoLeader}
@@ -28,8 +29,8 @@ module _ {V : Type 0} where
   -- the zone is settled if its last entry in the leader's log lies within the known count
   abbrev pub zone_row : Logs → List (Entry V) → ℕ → ℕ → ℕ → Row
   zone_row l es a held z =
-      cond (nat_lt (slice_index l.known a) (index_of (last_of (Zone z) (log_of l es a)))) (unsettled_row 0)
-      (settled_row 0 (slice_index l.known a) held (zone_stamp z (known_log (view_of l es) a)))
+      cond (nat_lt (known_of l a) (index_of (last_of (Zone z) (log_of l es a)))) (unsettled_row 0)
+      (settled_row 0 (known_of l a) held (zone_stamp z (known_log (view_of l es) a)))
 
   -- the rows of all sixteen zones
   unfoldable pub zone_rows : Logs → List (Entry V) → ℕ → ℕ → List Row
@@ -38,7 +39,7 @@ module _ {V : Type 0} where
   -- the snapshot of the session that leader a begins as its part p
   abbrev pub snapshot_of : (V → V → Bool) → Logs → List (Entry V) → ℕ → ℕ → Snapshot
   snapshot_of alike l es a p =
-      record { session = session_of l.term p; leader = a; rows = zone_rows l es a (holders alike (view_of l es) a (slice_index l.known a)) }
+      record { session = session_of l.term p; leader = a; rows = zone_rows l es a (holders alike (view_of l es) a (known_of l a)) }
 
   abbrev pub open_by : (V → V → Bool) → Logs → Lead → List (Entry V) → Option ℕ → Lead × Result Snapshot LeaderFault
   open_by alike l d es None = (d, Err (Log NoLeader))

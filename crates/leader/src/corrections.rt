@@ -61,7 +61,7 @@ pub fn correction<V: RecordKind>(
     };
     let log = logs.over(entries).log(leader);
     let index = entries::last_index(log, sought);
-    if index > logs.known[leader as usize] {
+    if index > logs.counts[leader as usize].known {
         return Err(LeaderFault::Uncommitted);
     }
     if index > 0 {

@@ -35,7 +35,7 @@ fn zone_row<V: RecordKind>(copies: &Replicas<V>, leader: u8, holders: u8, zone: 
     requires { leader < copies.now.logs.now.copies }
     ensures { result ≡ zone_row copies.now.logs.now copies.now.entries.now leader holders zone }
 {
-    let known = copies.logs.known[leader as usize];
+    let known = copies.logs.counts[leader as usize].known;
     if entries::last_index(copies.log(leader), Sought::Zone(zone)) > known {
         return Row {
             settled: false,
@@ -76,7 +76,7 @@ pub fn open_session<V: RecordKind>(
     if lead.part == 65535 {
         return Err(LeaderFault::PartsUsedUp);
     }
-    let holders = copies.holders(leader, logs.known[leader as usize]);
+    let holders = copies.holders(leader, logs.counts[leader as usize].known);
     let rows = zone_rows(copies, leader, holders);
     lead.part = lead.part + 1;
     lead.last = 0;
