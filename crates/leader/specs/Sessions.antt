@@ -29,7 +29,7 @@ module _ {V : Type 0} where
   abbrev pub zone_row : Logs → List (Entry V) → ℕ → ℕ → ℕ → Row
   zone_row l es a held z =
       cond (nat_lt (slice_index l.known a) (index_of (last_of (Zone z) (log_of l es a)))) (unsettled_row 0)
-      (settled_row 0 (slice_index l.known a) held (zone_stamp z (known_log (view_of l es) a)))
+      (settled_row 0 (record { index = slice_index l.known a; holders = held; stamp = zone_stamp z (known_log (view_of l es) a) }))
 
   -- the rows of all sixteen zones
   unfoldable pub zone_rows : Logs → List (Entry V) → ℕ → ℕ → List Row

@@ -5,9 +5,9 @@ ghost use Rattle.leader.specs.Sessions.{session_of, present, zone_row, zone_rows
 use crate::fault::LeaderFault;
 use crate::lead::Lead;
 use copies::Logs;
-use entries::{Entry, Sought, Stamp};
+use entries::{Entry, Sought};
 use kinds::RecordKind;
-use relay::{Row, Snapshot};
+use relay::{Row, Settlement, Snapshot};
 
 // A session is its term and its part, as one number.
 pub fn session_of(term: u16, part: u16) -> u32
@@ -45,23 +45,15 @@ fn zone_row<V: RecordKind>(
 {
     let known = logs.known[leader as usize];
     if entries::last_index(logs.log(entries, leader), Sought::Zone(zone)) > known {
-        return Row {
-            settled: false,
-            latest: 0,
-            index: 0,
-            holders: 0,
-            stamp: Stamp {
-                session: 0,
-                number: 0,
-            },
-        };
+        return Row::default();
     }
     Row {
-        settled: true,
         latest: 0,
-        index: known,
-        holders,
-        stamp: entries::zone_stamp(logs.known_log(entries, leader), zone),
+        settled: Some(Settlement {
+            index: known,
+            holders,
+            stamp: entries::zone_stamp(logs.known_log(entries, leader), zone),
+        }),
     }
 }
 
