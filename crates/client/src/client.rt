@@ -6,7 +6,7 @@ use kinds::RecordKind;
 use relay::{Body, Message, Outcome};
 
 // What a client waits for.
-#[derive(Clone, Copy)]
+#[derive(Clone, Copy, PartialEq, Eq)]
 pub enum Waiting {
     Nothing,
     Reading { star: u16 },
@@ -32,14 +32,10 @@ impl Client {
     pub fn next_number(&self) -> Result<u16, ClientFault>
         ensures { result ≡ next_number self.now }
     {
-        match self.waiting {
-            Waiting::Nothing => {}
-            _ => return Err(ClientFault::Busy),
+        if self.waiting != Waiting::Nothing {
+            return Err(ClientFault::Busy);
         }
-        if self.number == 65535 {
-            return Err(ClientFault::NumbersUsedUp);
-        }
-        Ok(self.number + 1)
+        self.number.checked_add(1).ok_or(ClientFault::NumbersUsedUp)
     }
 
     // The open request once more.
@@ -58,13 +54,11 @@ impl Client {
     pub fn abandon(&mut self) -> Result<(), ClientFault>
         ensures { (self.new, result) ≡ abandon_step self.old }
     {
-        match self.waiting {
-            Waiting::Nothing => Err(ClientFault::Idle),
-            _ => {
-                self.waiting = Waiting::Nothing;
-                Ok(())
-            }
+        if self.waiting == Waiting::Nothing {
+            return Err(ClientFault::Idle);
         }
+        self.waiting = Waiting::Nothing;
+        Ok(())
     }
 
     // Takes an answer only while the client waits for that kind and number, and is idle then.
@@ -76,17 +70,9 @@ impl Client {
         ensures { (self.new, result) ≡ take_step self.old number answer }
     {
         match (self.waiting, answer) {
-            (Waiting::Reading { star: _ }, Answer::Reading(_)) if number == self.number => {
-                self.waiting = Waiting::Nothing;
-                Ok(answer)
-            }
-            (
-                Waiting::Correction { star: _ },
-                Answer::Correction {
-                    outcome: _,
-                    index: _,
-                },
-            ) if number == self.number => {
+            (Waiting::Reading { .. }, Answer::Reading(_))
+            | (Waiting::Correction { .. }, Answer::Correction { .. })
+                if number == self.number => {
                 self.waiting = Waiting::Nothing;
                 Ok(answer)
             }
@@ -112,11 +98,8 @@ pub fn correction_request<V: RecordKind>(client: u8, number: u16, star: u16, val
     ensures { result ≡ correction_request client number star value }
 {
     Message {
-        client,
-        number,
-        star,
-        session: 0,
         body: Body::CorrectionRequest,
         value: Some(value),
+        ..read_request(client, number, star)
     }
 }

@@ -27,7 +27,7 @@ module _ {V R : Type 0} where
   react_table blank lawful alike s es m bodies.Installed = refl
   react_table blank lawful alike s es m bodies.LeaderReply = refl
   react_table blank lawful alike s es m (bodies.CopyReply r w) = refl
-  react_table blank lawful alike s es m (bodies.CorrectionReply n o i h w) = refl
+  react_table blank lawful alike s es m (bodies.CorrectionReply n o t) = refl
   react_table blank lawful alike s es m bodies.ReadAnswer = either (leb s.seats m.client || leb 8 m.client) _ _ s.table refl refl
   react_table blank lawful alike s es m (bodies.CorrectionAnswer o i) = either (leb s.seats m.client || leb 8 m.client) _ _ s.table refl refl
 

@@ -32,7 +32,7 @@ module _ {V R : Type 0} where
   react blank lawful alike s es m bodies.Installed = at_installed blank s es m.session
   react blank lawful alike s es m bodies.LeaderReply = (s, es, at_leader_reply s m)
   react blank lawful alike s es m (bodies.CopyReply r w) = (s, es, at_copy_reply s m w)
-  react blank lawful alike s es m (bodies.CorrectionReply n o i h w) = kept es (at_correction_reply s m n o i h w)
+  react blank lawful alike s es m (bodies.CorrectionReply n o t) = kept es (at_correction_reply s m n o t)
   react blank lawful alike s es m bodies.ReadAnswer = kept es (at_answer s m.client m.number (answers.Reading m.value))
   react blank lawful alike s es m (bodies.CorrectionAnswer o i) = kept es (at_answer s m.client m.number (answers.Correction o i))
 

@@ -5,6 +5,7 @@ use Rattle.entries.specs.declared.entry.Stamp.{Stamp}
 use Rattle.raft_log.specs.declared.fault.LogFault.TheVariants.{NotCommitted}
 use Rattle.relay.specs.declared.message.Outcome.{Outcome}
 use Rattle.relay.specs.declared.message.Message.{Message}
+use Rattle.relay.specs.declared.rows.Settlement.{Settlement}
 use Rattle.relay.specs.Delivery as relay
 use Rattle.leader.specs.declared.fault.LeaderFault.TheVariants.{Log}
 use Rattle.leader.specs.Faults.{on_result}
@@ -62,9 +63,9 @@ module _ {V R : Type 0} where
   abbrev pub at_copy_reply : Service R → Message V → Stamp → Result (Reaction V) ServiceFault
   at_copy_reply s m stamp = sending Relay (relay.copy_reply s.relay m stamp)
 
-  abbrev pub at_correction_reply : Service R → Message V → ℕ → Outcome → ℕ → ℕ → Stamp → Service R × Result (Reaction V) ServiceFault
-  at_correction_reply s m sequence o index holders stamp =
-      let p = relay.correction_reply s.relay m sequence o index holders stamp in (with_relay s p.0, sending Relay p.1)
+  abbrev pub at_correction_reply : Service R → Message V → ℕ → Outcome → Settlement → Service R × Result (Reaction V) ServiceFault
+  at_correction_reply s m sequence o t =
+      let p = relay.correction_reply s.relay m sequence o t in (with_relay s p.0, sending Relay p.1)
 
   abbrev pub at_answer : Service R → ℕ → ℕ → Answer V → Service R × Result (Reaction V) ServiceFault
   at_answer s c n a =

@@ -7,7 +7,7 @@ use entries::{Entry, Stamp};
 use kinds::RecordKind;
 use leader::LeaderFault;
 use raft_log::LogFault;
-use relay::{Message, Outcome};
+use relay::{Message, Outcome, Settlement};
 use state::{Service, ServiceFault};
 use votes::VoteRule;
 
@@ -131,15 +131,13 @@ pub fn correction_reply<V: RecordKind, R: VoteRule>(
     m: &Message<V>,
     sequence: u16,
     outcome: Outcome,
-    index: u16,
-    holders: u8,
-    stamp: Stamp,
+    settlement: Settlement,
 ) -> Result<Reaction<V>, ServiceFault>
-    ensures { (s.new, result) ≡ at_correction_reply s.old m.now sequence outcome index holders stamp }
+    ensures { (s.new, result) ≡ at_correction_reply s.old m.now sequence outcome settlement }
 {
     let sent = s
         .relay
-        .correction_reply(m, sequence, outcome, index, holders, stamp)?;
+        .correction_reply(m, sequence, outcome, settlement)?;
     Ok(Reaction::Sends(sent))
 }
 

@@ -41,10 +41,8 @@ fn react_to<V: RecordKind, R: VoteRule>(
         Body::CorrectionReply {
             sequence,
             outcome,
-            index,
-            holders,
-            stamp,
-        } => { react::correction_reply(s, m, sequence, outcome, index, holders, stamp) }
+            settlement,
+        } => { react::correction_reply(s, m, sequence, outcome, settlement) }
         Body::ReadAnswer => react::answer(s, m.client, m.number, Answer::Reading(m.value)),
         Body::CorrectionAnswer { outcome, index } => {
             react::answer(s, m.client, m.number, Answer::Correction { outcome, index })

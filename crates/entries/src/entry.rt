@@ -1,5 +1,5 @@
 // A stamp says which correction of which session wrote an entry. It is kept as a pair everywhere.
-#[derive(Clone, Copy)]
+#[derive(Clone, Copy, Default, PartialEq, Eq)]
 pub struct Stamp {
     pub session: u32,
     pub number: u16,

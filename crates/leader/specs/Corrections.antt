@@ -2,7 +2,7 @@
 use Rattle.std.specs.Prelude.{ℕ, Bool, cond, not, ◌||◌, List, Some, None, Ok, Err, Option, Result, ◌==◌, nat_le, nat_lt}
 use Rattle.entries.specs.declared.entry.Entry.{Entry}
 use Rattle.entries.specs.declared.entry.Sought.TheVariants.{Request, Term}
-use Rattle.entries.specs.Search.{no_stamp, last_of, index_of}
+use Rattle.entries.specs.Search.{last_of, index_of}
 use Rattle.copies.specs.declared.logs.Logs.{Logs}
 use Rattle.copies.specs.Shape.{known_of}
 use Rattle.copies.specs.View.{log_of, view_of}
@@ -13,6 +13,7 @@ use Rattle.relay.specs.declared.message.Outcome.{Outcome}
 use Rattle.relay.specs.declared.message.Outcome.TheVariants.{Fresh, KnownAlready, Unlawful}
 use Rattle.relay.specs.declared.message.Body.TheVariants.{CorrectionReply}
 use Rattle.relay.specs.declared.message.Message.{Message}
+use Rattle.relay.specs.Rows.{index_alone}
 use Rattle.leader.specs.declared.lead.Lead.{Lead}
 use Rattle.leader.specs.declared.fault.LeaderFault.{LeaderFault}
 use Rattle.leader.specs.declared.fault.LeaderFault.TheVariants.{NoReply, NumberNotAbove, Uncommitted, TermBegun, Log}
@@ -22,7 +23,7 @@ use Rattle.leader.specs.Sessions.{session_of, present}
 module _ {V : Type 0} where
   -- the reply to a correction that is not appended
   abbrev pub told : Message V → ℕ → Outcome → ℕ → Message V
-  told m sequence o index = record { client = m.client; number = m.number; star = m.star; session = m.session; body = CorrectionReply sequence o index 0 no_stamp; value = None }
+  told m sequence o index = record { client = m.client; number = m.number; star = m.star; session = m.session; body = CorrectionReply sequence o (index_alone index); value = None }
 
   -- the value, if there is a lawful one
   abbrev pub lawful_value : (V → Bool) → Option V → Option V
@@ -74,7 +75,7 @@ module _ {V : Type 0} where
   -- the fresh reply for entry e at index i
   abbrev pub fresh_reply : (V → V → Bool) → Logs → List (Entry V) → ℕ → ℕ → Entry V → Message V
   fresh_reply alike l es a i e =
-      record { client = e.client; number = e.number; star = e.star; session = e.stamp.session; body = CorrectionReply e.stamp.number Fresh i (holders alike (view_of l es) a i) e.stamp; value = None }
+      record { client = e.client; number = e.number; star = e.star; session = e.stamp.session; body = CorrectionReply e.stamp.number Fresh (record { index = i; holders = holders alike (view_of l es) a i; stamp = e.stamp }); value = None }
 
   -- only an entry of the present session that is no opening entry is replied for
   abbrev pub reply_for : (V → V → Bool) → Logs → Lead → List (Entry V) → ℕ → ℕ → Entry V → Result (Message V) LeaderFault

@@ -30,7 +30,7 @@ module _ {V : Type 0} where
   abbrev pub zone_row : Logs → List (Entry V) → ℕ → ℕ → ℕ → Row
   zone_row l es a held z =
       cond (nat_lt (known_of l a) (index_of (last_of (Zone z) (log_of l es a)))) (unsettled_row 0)
-      (settled_row 0 (known_of l a) held (zone_stamp z (known_log (view_of l es) a)))
+      (settled_row 0 (record { index = known_of l a; holders = held; stamp = zone_stamp z (known_log (view_of l es) a) }))
 
   -- the rows of all sixteen zones
   unfoldable pub zone_rows : Logs → List (Entry V) → ℕ → ℕ → List Row

@@ -8,7 +8,7 @@ use crate::sessions::{present_leader, session_of};
 use copies::{Logs, Replicas};
 use entries::{Entry, Sought, Stamp};
 use kinds::RecordKind;
-use relay::{Body, Message, Outcome};
+use relay::{Body, Message, Outcome, Settlement};
 
 // The reply to a correction that is not appended.
 fn tell<V: RecordKind>(m: &Message<V>, sequence: u16, outcome: Outcome, index: u16) -> Message<V>
@@ -18,11 +18,9 @@ fn tell<V: RecordKind>(m: &Message<V>, sequence: u16, outcome: Outcome, index: u
         body: Body::CorrectionReply {
             sequence,
             outcome,
-            index,
-            holders: 0,
-            stamp: Stamp {
-                session: 0,
-                number: 0,
+            settlement: Settlement {
+                index,
+                ..Settlement::default()
             },
         },
         value: None,
@@ -134,9 +132,11 @@ pub fn reply<V: RecordKind>(
         body: Body::CorrectionReply {
             sequence: e.stamp.number,
             outcome: Outcome::Fresh,
-            index,
-            holders,
-            stamp: e.stamp,
+            settlement: Settlement {
+                index,
+                holders,
+                stamp: e.stamp,
+            },
         },
         value: None,
     })

@@ -5,9 +5,9 @@ ghost use Rattle.leader.specs.Sessions.{session_of, present, zone_row, zone_rows
 use crate::fault::LeaderFault;
 use crate::lead::Lead;
 use copies::{Logs, Replicas};
-use entries::{Sought, Stamp};
+use entries::Sought;
 use kinds::RecordKind;
-use relay::{Row, Snapshot};
+use relay::{Row, Settlement, Snapshot};
 use std::array;
 
 // A session is its term and its part, as one number.
@@ -37,23 +37,15 @@ fn zone_row<V: RecordKind>(copies: &Replicas<V>, leader: u8, holders: u8, zone: 
 {
     let known = copies.logs.counts[leader as usize].known;
     if entries::last_index(copies.log(leader), Sought::Zone(zone)) > known {
-        return Row {
-            settled: false,
-            latest: 0,
-            index: 0,
-            holders: 0,
-            stamp: Stamp {
-                session: 0,
-                number: 0,
-            },
-        };
+        return Row::default();
     }
     Row {
-        settled: true,
         latest: 0,
-        index: known,
-        holders,
-        stamp: entries::zone_stamp(copies.known_log(leader), zone),
+        settled: Some(Settlement {
+            index: known,
+            holders,
+            stamp: entries::zone_stamp(copies.known_log(leader), zone),
+        }),
     }
 }
 

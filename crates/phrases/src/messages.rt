@@ -1,4 +1,4 @@
-use crate::texts::{SessionText, SetText, StampText, ValueText};
+use crate::texts::{SessionText, SettlementText, StampText, ValueText};
 use kinds::Place;
 use relay::{Body, Message, Outcome};
 use std::fmt;
@@ -89,17 +89,15 @@ impl fmt::Display for DetailText {
             }
             Body::CorrectionReply {
                 outcome,
-                index,
-                holders,
-                stamp,
+                settlement,
                 ..
             } => match outcome {
                 Outcome::Fresh => {
-                    let set = SetText(holders);
-                    let stamp = StampText(stamp);
-                    write!(f, ", session {session}, index {index}, {set}, {stamp}")
+                    write!(f, ", session {session}, {}", SettlementText(settlement))
                 }
-                Outcome::KnownAlready => write!(f, ", session {session}, index {index}"),
+                Outcome::KnownAlready => {
+                    write!(f, ", session {session}, index {}", settlement.index)
+                }
                 Outcome::Unlawful => write!(f, ", session {session}"),
             },
             Body::ReadAnswer => write!(f, ": {value}"),

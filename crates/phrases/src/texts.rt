@@ -1,7 +1,7 @@
 use client::{Client, Waiting};
 use entries::{Entry, Stamp};
 use kinds::Place;
-use relay::Row;
+use relay::{Row, Settlement};
 use std::fmt;
 
 // A session as TERM.PART.
@@ -100,22 +100,33 @@ impl fmt::Display for EntryText {
     }
 }
 
+// What settles a row.
+#[derive(Drop)]
+pub struct SettlementText(pub Settlement);
+
+impl fmt::Display for SettlementText {
+    fn fmt<W: fmt::Write>(&self, f: &mut fmt::Formatter<W>) -> fmt::Result {
+        let index = self.0.index;
+        let set = SetText(self.0.holders);
+        let stamp = StampText(self.0.stamp);
+        write!(f, "index {index}, {set}, {stamp}")
+    }
+}
+
 #[derive(Drop)]
 pub struct RowText(pub Row);
 
 impl fmt::Display for RowText {
     fn fmt<W: fmt::Write>(&self, f: &mut fmt::Formatter<W>) -> fmt::Result {
         let latest = self.0.latest;
-        if !self.0.settled {
-            return write!(f, "unsettled, latest number {latest}");
+        match self.0.settled {
+            Some(settlement) => write!(
+                f,
+                "settled, latest number {latest}, {}",
+                SettlementText(settlement)
+            ),
+            None => write!(f, "unsettled, latest number {latest}"),
         }
-        let index = self.0.index;
-        let set = SetText(self.0.holders);
-        let stamp = StampText(self.0.stamp);
-        write!(
-            f,
-            "settled, latest number {latest}, index {index}, {set}, {stamp}"
-        )
     }
 }
 

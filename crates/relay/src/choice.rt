@@ -6,12 +6,7 @@ fn lowest(set: u8, from: u8, to: u8) -> Option<u8>
     ensures value { result ≡ lowest_from set from (to - from) }
     ensures bound { IfSome result (λ k. k < to) }
 {
-    for r in from..to {
-        if votes::has(set, r) {
-            return Some(r);
-        }
-    }
-    None
+    (from..to).find(|r| votes::has(set, *r))
 }
 
 // The lowest copy in the set at or above the turn, else the lowest in the set.
@@ -19,8 +14,5 @@ pub fn choose(copies: u8, set: u8, turn: u8) -> Option<u8>
     ensures value { result ≡ chosen copies set turn }
     ensures bound { IfSome result (λ k. k < copies) }
 {
-    match lowest(set, turn, copies) {
-        Some(r) => Some(r),
-        None => lowest(set, 0, copies),
-    }
+    lowest(set, turn, copies).or_else(|| lowest(set, 0, copies))
 }

@@ -12,4 +12,4 @@ mod rows;
 pub use choice::choose;
 pub use fault::RelayFault;
 pub use message::{Body, Message, Outcome};
-pub use rows::{Relay, Row, Snapshot};
+pub use rows::{Opened, Relay, Row, Settlement, Snapshot};

@@ -1,7 +1,8 @@
+use crate::rows::Settlement;
 use entries::Stamp;
 
 // What came of a correction.
-#[derive(Clone, Copy)]
+#[derive(Clone, Copy, PartialEq, Eq)]
 pub enum Outcome {
     Fresh,
     KnownAlready,
@@ -32,9 +33,8 @@ pub enum Body {
     CorrectionReply {
         sequence: u16,
         outcome: Outcome,
-        index: u16,
-        holders: u8,
-        stamp: Stamp,
+        // A reply that is not fresh has its index alone.
+        settlement: Settlement,
     },
     ReadAnswer,
     CorrectionAnswer {

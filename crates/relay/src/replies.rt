@@ -1,49 +1,30 @@
 ghost use Rattle.std.specs.Prelude.{◌≡◌};
-ghost use Rattle.relay.specs.Rows.{settled_row, stamp_alike};
-ghost use Rattle.relay.specs.Delivery.{admitted, leader_reply, copy_reply, correction_reply};
+ghost use Rattle.relay.specs.Delivery.{check_session, leader_reply, copy_reply, correction_reply};
 
 use crate::fault::RelayFault;
 use crate::message::{Body, Message, Outcome};
 use crate::requests::send_on;
-use crate::rows::{Relay, Row};
+use crate::rows::{Relay, Settlement, zone_of};
 use entries::Stamp;
 use kinds::RecordKind;
 
-pub fn same_stamp(a: Stamp, b: Stamp) -> bool
-    ensures { result ≡ stamp_alike a b }
+// A reply is taken only in its own session.
+fn check_session(own: u32, session: u32) -> Result<(), RelayFault>
+    ensures { result ≡ check_session own session }
 {
-    (a.session == b.session) & (a.number == b.number)
-}
-
-// The row is settled; its latest number stays.
-fn settle(row: &mut Row, index: u16, holders: u8, stamp: Stamp)
-    ensures { row.new ≡ settled_row row.old.latest index holders stamp }
-{
-    row.settled = true;
-    row.index = index;
-    row.holders = holders;
-    row.stamp = stamp;
+    if session != own {
+        return Err(RelayFault::OtherSession);
+    }
+    Ok(())
 }
 
 impl Relay {
-    // What both kinds of reply are tested for.
-    fn admit(&self, session: u32) -> Result<(), RelayFault>
-        ensures { result ≡ admitted self.now session }
-    {
-        if !self.opened {
-            return Err(RelayFault::Closed);
-        }
-        if session != self.session {
-            return Err(RelayFault::OtherSession);
-        }
-        Ok(())
-    }
-
     // The leader's read reply goes to the client.
     pub fn leader_reply<V: RecordKind>(&self, m: &Message<V>) -> Result<Message<V>, RelayFault>
         ensures { result ≡ leader_reply self.now m.now }
     {
-        self.admit(m.session)?;
+        self.opened.as_ref().ok_or(RelayFault::Closed)?;
+        check_session(self.session, m.session)?;
         Ok(send_on(m, 0, Body::ReadAnswer))
     }
 
@@ -56,19 +37,18 @@ impl Relay {
     ) -> Result<Message<V>, RelayFault>
         ensures { result ≡ copy_reply self.now m.now stamp }
     {
-        self.admit(m.session)?;
-        let row = self.rows[(m.star / 4096) as usize];
-        if row.settled & same_stamp(stamp, row.stamp) {
-            return Ok(send_on(m, 0, Body::ReadAnswer));
+        let opened = self.opened.as_ref().ok_or(RelayFault::Closed)?;
+        check_session(self.session, m.session)?;
+        let row = opened.rows[zone_of(m.star)];
+        match row.settled {
+            Some(settlement) if settlement.stamp == stamp => Ok(send_on(m, 0, Body::ReadAnswer)),
+            _ => Ok(Message {
+                session: self.session,
+                body: Body::LeaderRead,
+                value: None,
+                ..*m
+            }),
         }
-        Ok(Message {
-            client: m.client,
-            number: m.number,
-            star: m.star,
-            session: self.session,
-            body: Body::LeaderRead,
-            value: None,
-        })
     }
 
     // A correction reply goes to the client. A fresh one with the row's latest number settles it.
@@ -77,21 +57,17 @@ impl Relay {
         m: &Message<V>,
         sequence: u16,
         outcome: Outcome,
-        index: u16,
-        holders: u8,
-        stamp: Stamp,
+        settlement: Settlement,
     ) -> Result<Message<V>, RelayFault>
-        ensures { (self.new, result) ≡ correction_reply self.old m.now sequence outcome index holders stamp }
+        ensures { (self.new, result) ≡ correction_reply self.old m.now sequence outcome settlement }
     {
-        self.admit(m.session)?;
-        let zone = (m.star / 4096) as usize;
-        let fresh = match outcome {
-            Outcome::Fresh => true,
-            _ => false,
-        };
-        if fresh & (sequence == self.rows[zone].latest) {
-            settle(&mut self.rows[zone], index, holders, stamp);
+        let opened = self.opened.as_mut().ok_or(RelayFault::Closed)?;
+        check_session(self.session, m.session)?;
+        let row = &mut opened.rows[zone_of(m.star)];
+        if outcome == Outcome::Fresh && sequence == row.latest {
+            row.settled = Some(settlement);
         }
+        let index = settlement.index;
         Ok(send_on(m, 0, Body::CorrectionAnswer { outcome, index }))
     }
 }

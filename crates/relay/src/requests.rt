@@ -1,12 +1,12 @@
 ghost use Rattle.std.specs.Prelude.{◌≡◌, ℕ, ◌<◌};
+ghost use Rattle.entries.specs.Search.{zone_of};
 ghost use Rattle.relay.specs.Rows.{unsettled_row};
 ghost use Rattle.relay.specs.Delivery.{sent, read_request, correction_request};
 
 use crate::choice::choose;
 use crate::fault::RelayFault;
 use crate::message::{Body, Message};
-use crate::rows::{Relay, Row};
-use entries::Stamp;
+use crate::rows::{Relay, Row, zone_of};
 use kinds::RecordKind;
 
 // The request goes on under the relay's session.
@@ -14,27 +14,10 @@ pub fn send_on<V: RecordKind>(m: &Message<V>, session: u32, body: Body) -> Messa
     ensures { result ≡ sent m.now session body }
 {
     Message {
-        client: m.client,
-        number: m.number,
-        star: m.star,
         session,
         body,
-        value: m.value,
+        ..*m
     }
-}
-
-// The row gets the number as its latest, and is unsettled.
-fn unsettle(row: &mut Row, number: u16)
-    ensures { row.new ≡ unsettled_row number }
-{
-    row.settled = false;
-    row.latest = number;
-    row.index = 0;
-    row.holders = 0;
-    row.stamp = Stamp {
-        session: 0,
-        number: 0,
-    };
 }
 
 impl Relay {
@@ -46,19 +29,18 @@ impl Relay {
     ) -> Result<Message<V>, RelayFault>
         ensures { (self.new, result) ≡ read_request copies self.old m.now }
     {
-        if !self.opened {
-            return Err(RelayFault::Closed);
-        }
-        let row = self.rows[(m.star / 4096) as usize];
-        if !row.settled {
-            return Ok(send_on(m, self.session, Body::LeaderRead));
-        }
-        let Some(copy) = choose(copies, row.holders, self.turn) else {
-            return Ok(send_on(m, self.session, Body::LeaderRead));
+        let session = self.session;
+        let opened = self.opened.as_mut().ok_or(RelayFault::Closed)?;
+        let row = opened.rows[zone_of(m.star)];
+        let Some(settlement) = row.settled else {
+            return Ok(send_on(m, session, Body::LeaderRead));
         };
-        self.turn = (copy + 1) % copies;
-        let index = row.index;
-        Ok(send_on(m, self.session, Body::CopyRead { copy, index }))
+        let Some(copy) = choose(copies, settlement.holders, opened.turn) else {
+            return Ok(send_on(m, session, Body::LeaderRead));
+        };
+        opened.turn = (copy + 1) % copies;
+        let index = settlement.index;
+        Ok(send_on(m, session, Body::CopyRead { copy, index }))
     }
 
     // A correction gets the next sequence number, and its zone is unsettled.
@@ -68,15 +50,16 @@ impl Relay {
     ) -> Result<Message<V>, RelayFault>
         ensures { (self.new, result) ≡ correction_request self.old m.now }
     {
-        if !self.opened {
-            return Err(RelayFault::Closed);
-        }
-        if self.sequence == 65535 {
+        let opened = self.opened.as_mut().ok_or(RelayFault::Closed)?;
+        if opened.sequence == u16::MAX {
             return Err(RelayFault::NumbersUsedUp);
         }
-        let sequence = self.sequence + 1;
-        self.sequence = sequence;
-        unsettle(&mut self.rows[(m.star / 4096) as usize], sequence);
+        opened.sequence += 1;
+        let sequence = opened.sequence;
+        opened.rows[zone_of(m.star)] = Row {
+            latest: sequence,
+            settled: None,
+        };
         Ok(send_on(m, self.session, Body::Correction { sequence }))
     }
 }

@@ -6,6 +6,7 @@ use Rattle.relay.specs.declared.message.Outcome.{Outcome}
 use Rattle.relay.specs.declared.message.Body.{Body}
 use Rattle.relay.specs.declared.message.Body.TheVariants as bodies
 use Rattle.relay.specs.declared.message.Message.{Message}
+use Rattle.relay.specs.declared.rows.Settlement.{Settlement}
 use Rattle.relay.specs.Delivery as relay
 use Rattle.leader.specs.declared.fault.LeaderFault.TheVariants.{Log}
 use Rattle.leader.specs.Faults.{on_result}
@@ -65,9 +66,9 @@ module _ {V : Type 0} where
   copy_reply_arrives w m stamp = (w, passed Relay (relay.copy_reply w.relay m stamp))
 
   -- correction reply, at the relay: 20, 21
-  abbrev pub correction_reply_arrives : Whole V → Message V → ℕ → Outcome → ℕ → ℕ → Stamp → Whole V × Result (Reaction V) ServiceFault
-  correction_reply_arrives w m sequence o index holders stamp =
-      let p = relay.correction_reply w.relay m sequence o index holders stamp in (with_relay w p.0, passed Relay p.1)
+  abbrev pub correction_reply_arrives : Whole V → Message V → ℕ → Outcome → Settlement → Whole V × Result (Reaction V) ServiceFault
+  correction_reply_arrives w m sequence o t =
+      let p = relay.correction_reply w.relay m sequence o t in (with_relay w p.0, passed Relay p.1)
 
   -- an answer of the number to a client with an open request: 27, unless it waits for that kind and number
   abbrev pub answer_taken : Whole V → ℕ → ℕ → Answer V → ℕ → Open V → Whole V × Result (Reaction V) ServiceFault
@@ -93,7 +94,7 @@ module _ {V : Type 0} where
   arrive blank lawful alike w m bodies.Installed = installed_arrives blank w m.session
   arrive blank lawful alike w m bodies.LeaderReply = leader_reply_arrives w m
   arrive blank lawful alike w m (bodies.CopyReply r stamp) = copy_reply_arrives w m stamp
-  arrive blank lawful alike w m (bodies.CorrectionReply n o i h stamp) = correction_reply_arrives w m n o i h stamp
+  arrive blank lawful alike w m (bodies.CorrectionReply n o t) = correction_reply_arrives w m n o t
   arrive blank lawful alike w m bodies.ReadAnswer = answer_arrives w m.client m.number (answers.Reading m.value)
   arrive blank lawful alike w m (bodies.CorrectionAnswer o i) = answer_arrives w m.client m.number (answers.Correction o i)
 

@@ -71,7 +71,7 @@ module _ {V : Type 0} where
   -- the fresh reply for entry e at index i
   abbrev pub fresh_reply : (V → V → Bool) → View V → ℕ → ℕ → Entry V → Message V
   fresh_reply alike s a i e =
-      record { client = e.client; number = e.number; star = e.star; session = e.stamp.session; body = CorrectionReply e.stamp.number Fresh i (holders alike s a i) e.stamp; value = None }
+      record { client = e.client; number = e.number; star = e.star; session = e.stamp.session; body = CorrectionReply e.stamp.number Fresh (record { index = i; holders = holders alike s a i; stamp = e.stamp }); value = None }
 
   -- only an entry of the present session that is no opening entry is replied for
   abbrev pub reply_for : (V → V → Bool) → View V → Lead → ℕ → ℕ → Entry V → Result (Message V) LeaderFault

@@ -24,7 +24,7 @@ module _ {V : Type 0} where
   abbrev pub zone_row : View V → ℕ → ℕ → ℕ → Row
   zone_row s a held z =
       cond (nat_lt (s.known a) (index_of (last_of (Zone z) (s.log a)))) (unsettled_row 0)
-      (settled_row 0 (s.known a) held (zone_stamp z (known_log s a)))
+      (settled_row 0 (record { index = s.known a; holders = held; stamp = zone_stamp z (known_log s a) }))
 
   -- the rows of all sixteen zones
   unfoldable pub zone_rows : View V → ℕ → ℕ → List Row

@@ -2,7 +2,7 @@ use crate::sentences::{layer_name, sentence};
 use client::Answer;
 use kinds::Place;
 use phrases::{EntriesText, MessageText, OutcomeText, RowText, SessionText, ValueText};
-use relay::{Body, Message, Row, Snapshot};
+use relay::{Body, Message, Relay, Row, Snapshot};
 use scenario::Memory;
 use service::Call;
 use state::{Service, ServiceFault};
@@ -78,17 +78,25 @@ fn tell_appended<R: VoteRule>(out: &mut String, s: &Service<R>) -> Result<(), Al
     }
 }
 
+// The row of the star's zone, while the relay is open.
+fn tell_row(out: &mut String, relay: &Relay, star: u16) -> Result<(), AllocError> {
+    let Some(opened) = &relay.opened else {
+        return Ok(());
+    };
+    let zone = star / 4096;
+    let row = RowText(opened.rows[zone as usize]);
+    writeln!(out, "{INDENT}zone {zone}: {row}")
+}
+
 // What else a delivered message changed: the zone's row, or the copy's known count.
 fn tell_change<R: VoteRule>(
     out: &mut String,
     s: &Service<R>,
     m: &Message<Place>,
 ) -> Result<(), AllocError> {
-    let zone = m.star / 4096;
-    let row = RowText(s.relay.rows[zone as usize]);
     match m.body {
-        Body::CorrectionRequest => writeln!(out, "{INDENT}zone {zone}: {row}"),
-        Body::CorrectionReply { .. } => writeln!(out, "{INDENT}zone {zone}: {row}"),
+        Body::CorrectionRequest => tell_row(out, &s.relay, m.star),
+        Body::CorrectionReply { .. } => tell_row(out, &s.relay, m.star),
         Body::CopyRead { copy, .. } if copy < 7 => {
             let known = s.logs.known[copy as usize];
             writeln!(out, "{INDENT}copy {copy}: known count {known}")
@@ -114,18 +122,15 @@ pub fn tell_delivered<R: VoteRule>(
 }
 
 fn tell_unsettled(out: &mut String, rows: &[Row]) -> Result<(), AllocError> {
-    let mut some = false;
+    if rows.iter().all(|row| row.settled.is_some()) {
+        return writeln!(out, " none");
+    }
     for (zone, row) in rows.iter().enumerate() {
-        if !row.settled {
-            some = true;
+        if row.settled.is_none() {
             write!(out, " {zone}")?;
         }
     }
-    if some {
-        writeln!(out, "")
-    } else {
-        writeln!(out, " none")
-    }
+    writeln!(out, "")
 }
 
 fn tell_opened(

@@ -47,7 +47,7 @@ fn tell_leader<R: VoteRule>(out: &mut String, s: &Service<R>) -> Result<(), Allo
 
 // Whether the row is as the snapshot had it for every zone without an entry.
 fn is_plain(row: &Row) -> bool {
-    row.settled & (row.latest == 0) & (row.stamp.session == 0)
+    row.latest == 0 && row.settled.is_some_and(|s| s.stamp.session == 0)
 }
 
 fn tell_rows(out: &mut String, rows: &[Row]) -> Result<(), AllocError> {
@@ -72,16 +72,16 @@ fn tell_relay(out: &mut String, relay: &Relay) -> Result<(), AllocError> {
         return writeln!(out, "Relay: closed, no session installed yet");
     }
     let session = SessionText(relay.session);
-    if !relay.opened {
+    let Some(opened) = &relay.opened else {
         return writeln!(out, "Relay: closed, highest installed session {session}");
-    }
-    let sequence = relay.sequence;
-    let turn = relay.turn;
+    };
+    let sequence = opened.sequence;
+    let turn = opened.turn;
     writeln!(
         out,
         "Relay: open in session {session}, sequence number {sequence}, turn {turn}"
     )?;
-    tell_rows(out, &relay.rows)
+    tell_rows(out, &opened.rows)
 }
 
 fn tell_snapshot(out: &mut String, snapshot: &Option<Snapshot>) -> Result<(), AllocError> {
