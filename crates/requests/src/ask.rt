@@ -1,4 +1,4 @@
-ghost use Rattle.std.specs.Prelude.{◌≡◌, ℕ, ◌<◌, ◌≤◌, length, OnOk, slice_set};
+ghost use Rattle.std.specs.Prelude.{◌≡◌, ℕ, ◌<◌, ◌≤◌, length, OnOk};
 ghost use Rattle.requests.specs.Clients.{begin_of, begin_correction, read_step, correct_step};
 
 use client::{Client, Waiting};
@@ -61,14 +61,6 @@ fn begin_correction<V: RecordKind, R: VoteRule>(
     begin(s, client, star)
 }
 
-// The client's value is kept.
-fn keep<V: RecordKind>(kept: &mut [V], client: u8, value: V)
-    requires { client < length kept.old }
-    ensures { kept.new ≡ slice_set kept.old client value }
-{
-    kept[client as usize] = value;
-}
-
 // The client corrects the star's value, which is kept; the answer is the request's number.
 pub fn correct<V: RecordKind, R: VoteRule>(
     s: &mut Service<R>,
@@ -92,6 +84,6 @@ pub fn correct<V: RecordKind, R: VoteRule>(
         number,
         waiting: Waiting::Correction { star },
     };
-    keep(kept, client, value);
+    kept[client as usize] = value;
     Ok(number)
 }
