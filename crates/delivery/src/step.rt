@@ -21,6 +21,7 @@ pub enum Effect<V> {
 }
 
 // The message does what its kind says.
+#[tactic(auto, unfolding(crate::specs::Deliver::react))]
 fn react_to<V: RecordKind, R: VoteRule>(
     s: &mut Service<R>,
     entries: &mut [Entry<V>],
@@ -61,15 +62,9 @@ pub fn deliver<V: RecordKind, R: VoteRule>(
 ) -> Result<Effect<V>, ServiceFault>
     ensures { (s.new, entries.new, messages.new, result) ≡ deliver_step V.RecordKind.blank_value V.RecordKind.lawful V.RecordKind.alike s.old entries.old messages.old place }
 {
-    if !s.logs.fits(entries.len()) {
-        return Err(ServiceFault::Memory);
-    }
-    if !s.table.fits(messages.len()) {
-        return Err(ServiceFault::Memory);
-    }
-    if place >= s.table.count as u32 {
-        return Err(ServiceFault::NoSuch);
-    }
+    s.check_entries(entries)?;
+    s.check_messages(messages)?;
+    s.check_place(place)?;
     let m = state::take_message(&mut s.table, messages, place as u16);
     match react_to(s, entries, &m) {
         Ok(Reaction::Sends(sent)) => {

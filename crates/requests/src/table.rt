@@ -44,8 +44,8 @@ pub fn lose<V: RecordKind, R: VoteRule>(
     ensures { (s.new, messages.new, result) ≡ lose_step s.old messages.old place }
 {
     s.check_messages(messages)?;
-    let place = s.table.place(place)?;
-    let _ = state::take_message(&mut s.table, messages, place);
+    s.check_place(place)?;
+    let _ = state::take_message(&mut s.table, messages, place as u16);
     Ok(())
 }
 
@@ -58,7 +58,8 @@ pub fn double<V: RecordKind, R: VoteRule>(
     ensures { (s.new, messages.new, result) ≡ double_step s.old messages.old place }
 {
     s.check_messages(messages)?;
-    let m = messages[s.table.place(place)? as usize];
+    s.check_place(place)?;
+    let m = messages[place as usize];
     state::post(&mut s.table, messages, m)?;
     Ok(s.table.count)
 }

@@ -28,13 +28,13 @@ enough b = cond b (Ok tt) (Err Memory)
 abbrev pub unseated : ℕ → ℕ → Bool
 unseated n c = nat_le n c || nat_le 8 c
 
--- the client's place among n that take part
+-- the client's seat among n that take part
 abbrev pub seat_of : ℕ → ℕ → Option ℕ
 seat_of n c = cond (unseated n c) None (Some c)
 
--- the place, if there is a message
-abbrev pub place_of : Table → ℕ → Result ℕ ServiceFault
-place_of t i = cond (nat_le t.count i) (Err NoSuch) (Ok i)
+-- a step is refused where no message is at the place
+abbrev pub occupied : Table → ℕ → Result (Unit {0}) ServiceFault
+occupied t i = cond (nat_le t.count i) (Err NoSuch) (Ok tt)
 
 abbrev pub with_count : Table → ℕ → Table
 with_count t n = record { size = t.size; count = n }

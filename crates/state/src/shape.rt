@@ -1,6 +1,6 @@
-ghost use Rattle.std.specs.Prelude.{◌≡◌, ℕ, ◌<◌, ◌≤◌, true, length, OnOk, IfOk, IfSome};
+ghost use Rattle.std.specs.Prelude.{◌≡◌, ℕ, ◌<◌, ◌≤◌, true, length, OnOk, IfSome};
 ghost use Rattle.copies.specs.Shape.{shaped, Shaped};
-ghost use Rattle.state.specs.Memory.{table_fits, TableShaped, seats_fit, enough, place_of, seat_of};
+ghost use Rattle.state.specs.Memory.{table_fits, TableShaped, seats_fit, enough, occupied, seat_of};
 ghost use Rattle.state.specs.Parts.{new_step};
 
 use crate::fault::ServiceFault;
@@ -23,18 +23,6 @@ impl Table {
             & (self.size <= 256)
             & (self.count <= self.size)
             & (self.size as usize <= n)
-    }
-
-    // The place, if there is a message.
-    pub fn place(&self, place: u32) -> Result<u16, ServiceFault>
-        ensures value { result ≡ place_of self.now place }
-        ensures bound { IfOk result (λ k. k < self.now.count) }
-    {
-        if place < self.count as u32 {
-            Ok(place as u16)
-        } else {
-            Err(ServiceFault::NoSuch)
-        }
     }
 }
 
@@ -74,7 +62,19 @@ impl<R> Service<R> {
         enough((self.seats >= 1) & (self.seats <= 8) & (self.seats as usize <= kept.len()))
     }
 
-    // The client's place, if it takes part.
+    // Refuses where there is no message at the place.
+    pub fn check_place(&self, place: u32) -> Result<(), ServiceFault>
+        ensures value { result ≡ occupied self.now.table place }
+        ensures means { OnOk result (place < self.now.table.count) }
+    {
+        if place < self.table.count as u32 {
+            Ok(())
+        } else {
+            Err(ServiceFault::NoSuch)
+        }
+    }
+
+    // The client's seat, if it takes part.
     pub fn seat(&self, client: u8) -> Option<usize>
         ensures value { result ≡ seat_of self.now.seats client }
         ensures bound { IfSome result (λ k. (k < 8) × (k < self.now.seats)) }
