@@ -20,7 +20,7 @@ pub enum Effect<V> {
     Answered(Answer<V>),
 }
 
-// The message does what its kind says.
+// The message does what its kind says, and leaves the table as it is.
 #[tactic(auto, unfolding(crate::specs::Deliver::react))]
 fn react_to<V: RecordKind, R: VoteRule>(
     s: &mut Service<R>,
@@ -28,7 +28,8 @@ fn react_to<V: RecordKind, R: VoteRule>(
     m: &Message<V>,
 ) -> Result<Reaction<V>, ServiceFault>
     requires shape { Shaped s.old.logs (length entries.old) }
-    ensures { (s.new, entries.new, result) ≡ reaction_to V.RecordKind.blank_value V.RecordKind.lawful V.RecordKind.alike s.old entries.old m.now m.now.body }
+    ensures value { (s.new, entries.new, result) ≡ reaction_to V.RecordKind.blank_value V.RecordKind.lawful V.RecordKind.alike s.old entries.old m.now m.now.body }
+    ensures table { s.new.table ≡ s.old.table }
 {
     match m.body {
         Body::ReadRequest => react::read_request(s, m),
