@@ -17,6 +17,7 @@ use Rattle.client.specs.Client.{take_step}
 use Rattle.state.specs.declared.service.Service.{Service}
 use Rattle.state.specs.declared.fault.ServiceFault.{ServiceFault}
 use Rattle.state.specs.declared.fault.ServiceFault.TheVariants.{Leader, Relay, Client}
+use Rattle.state.specs.Memory.{unseated}
 use Rattle.state.specs.Parts.{idle_client, with_logs, with_lead, with_relay, with_clients}
 use Rattle.delivery.specs.declared.react.Reaction.{Reaction}
 use Rattle.delivery.specs.declared.react.Reaction.TheVariants.{Sends, Answers, Ends}
@@ -69,6 +70,6 @@ module _ {V R : Type 0} where
 
   abbrev pub at_answer : Service R → ℕ → ℕ → Answer V → Service R × Result (Reaction V) ServiceFault
   at_answer s c n a =
-      cond (nat_le s.seats c || nat_le 8 c) (s, Err (Client NotAwaited))
+      cond (unseated s.seats c) (s, Err (Client NotAwaited))
       (let p = take_step (slice_index_or s.clients c idle_client) n a in
       (with_clients s (slice_set s.clients c p.0), on_result p.1 (λ b. Ok (Answers b)) (λ e. Err (Client e))))

@@ -27,8 +27,7 @@ pub fn read_request<V: RecordKind, R: VoteRule>(
     ensures { (s.new, result) ≡ at_read_request s.old m.now }
 {
     let copies = s.logs.copies;
-    let sent = s.relay.read_request(copies, m)?;
-    Ok(Reaction::Sends(sent))
+    Ok(Reaction::Sends(s.relay.read_request(copies, m)?))
 }
 
 // A correction request at the relay.
@@ -38,8 +37,7 @@ pub fn correction_request<V: RecordKind, R: VoteRule>(
 ) -> Result<Reaction<V>, ServiceFault>
     ensures { (s.new, result) ≡ at_correction_request s.old m.now }
 {
-    let sent = s.relay.correction_request(m)?;
-    Ok(Reaction::Sends(sent))
+    Ok(Reaction::Sends(s.relay.correction_request(m)?))
 }
 
 // A copy read at its copy.
@@ -56,8 +54,7 @@ pub fn copy_read<V: RecordKind, R: VoteRule>(
     if copy >= s.logs.copies {
         return Err(ServiceFault::Leader(LeaderFault::Log(LogFault::NotCommitted)));
     }
-    let sent = leader::copy_read(&mut s.logs, entries, m, copy, index)?;
-    Ok(Reaction::Sends(sent))
+    Ok(Reaction::Sends(leader::copy_read(&mut s.logs, entries, m, copy, index)?))
 }
 
 // A leader read at the leader.
@@ -69,8 +66,7 @@ pub fn leader_read<V: RecordKind, R: VoteRule>(
     requires shape { Shaped s.now.logs (length entries.now) }
     ensures { result ≡ at_leader_read s.now entries.now m.now }
 {
-    let sent = leader::leader_read(&s.logs, &s.lead, entries, m)?;
-    Ok(Reaction::Sends(sent))
+    Ok(Reaction::Sends(leader::leader_read(&s.logs, &s.lead, entries, m)?))
 }
 
 // A correction at the leader.
@@ -109,8 +105,7 @@ pub fn leader_reply<V: RecordKind, R: VoteRule>(
 ) -> Result<Reaction<V>, ServiceFault>
     ensures { result ≡ at_leader_reply s.now m.now }
 {
-    let sent = s.relay.leader_reply(m)?;
-    Ok(Reaction::Sends(sent))
+    Ok(Reaction::Sends(s.relay.leader_reply(m)?))
 }
 
 // A copy's read reply at the relay.
@@ -121,8 +116,7 @@ pub fn copy_reply<V: RecordKind, R: VoteRule>(
 ) -> Result<Reaction<V>, ServiceFault>
     ensures { result ≡ at_copy_reply s.now m.now stamp }
 {
-    let sent = s.relay.copy_reply(m, stamp)?;
-    Ok(Reaction::Sends(sent))
+    Ok(Reaction::Sends(s.relay.copy_reply(m, stamp)?))
 }
 
 // A correction reply at the relay.
@@ -135,10 +129,9 @@ pub fn correction_reply<V: RecordKind, R: VoteRule>(
 ) -> Result<Reaction<V>, ServiceFault>
     ensures { (s.new, result) ≡ at_correction_reply s.old m.now sequence outcome settlement }
 {
-    let sent = s
-        .relay
-        .correction_reply(m, sequence, outcome, settlement)?;
-    Ok(Reaction::Sends(sent))
+    Ok(Reaction::Sends(
+        s.relay.correction_reply(m, sequence, outcome, settlement)?,
+    ))
 }
 
 // An answer at its client.
@@ -150,9 +143,6 @@ pub fn answer<V: RecordKind, R: VoteRule>(
 ) -> Result<Reaction<V>, ServiceFault>
     ensures { (s.new, result) ≡ at_answer s.old client number told }
 {
-    if client >= s.seats || client >= 8 {
-        return Err(ServiceFault::Client(ClientFault::NotAwaited));
-    }
-    let taken = s.clients[client as usize].take(number, told)?;
-    Ok(Reaction::Answers(taken))
+    let seat = s.seat(client).ok_or(ClientFault::NotAwaited)?;
+    Ok(Reaction::Answers(s.clients[seat].take(number, told)?))
 }

@@ -20,14 +20,16 @@ pub enum Effect<V> {
     Answered(Answer<V>),
 }
 
-// The message does what its kind says.
+// The message does what its kind says, and leaves the table as it is.
+#[tactic(auto, unfolding(crate::specs::Deliver::react))]
 fn react_to<V: RecordKind, R: VoteRule>(
     s: &mut Service<R>,
     entries: &mut [Entry<V>],
     m: &Message<V>,
 ) -> Result<Reaction<V>, ServiceFault>
     requires shape { Shaped s.old.logs (length entries.old) }
-    ensures { (s.new, entries.new, result) ≡ reaction_to V.RecordKind.blank_value V.RecordKind.lawful V.RecordKind.alike s.old entries.old m.now m.now.body }
+    ensures value { (s.new, entries.new, result) ≡ reaction_to V.RecordKind.blank_value V.RecordKind.lawful V.RecordKind.alike s.old entries.old m.now m.now.body }
+    ensures table { s.new.table ≡ s.old.table }
 {
     match m.body {
         Body::ReadRequest => react::read_request(s, m),
@@ -59,23 +61,17 @@ pub fn deliver<V: RecordKind, R: VoteRule>(
 ) -> Result<Effect<V>, ServiceFault>
     ensures { (s.new, entries.new, messages.new, result) ≡ deliver_step V.RecordKind.blank_value V.RecordKind.lawful V.RecordKind.alike s.old entries.old messages.old place }
 {
-    if !s.logs.fits(entries.len()) {
-        return Err(ServiceFault::Memory);
-    }
-    if !s.table.fits(messages.len()) {
-        return Err(ServiceFault::Memory);
-    }
-    if place >= s.table.count as u32 {
-        return Err(ServiceFault::NoSuch);
-    }
+    s.check_entries(entries)?;
+    s.check_messages(messages)?;
+    s.check_place(place)?;
     let m = state::take_message(&mut s.table, messages, place as u16);
-    match react_to(s, entries, &m) {
+    Ok(match react_to(s, entries, &m) {
         Ok(Reaction::Sends(sent)) => {
             state::put_message(&mut s.table, messages, sent);
-            Ok(Effect::Done(0))
+            Effect::Done(0)
         }
-        Ok(Reaction::Answers(answer)) => Ok(Effect::Answered(answer)),
-        Ok(Reaction::Ends) => Ok(Effect::Done(0)),
-        Err(fault) => Ok(Effect::Dropped(fault)),
-    }
+        Ok(Reaction::Answers(answer)) => Effect::Answered(answer),
+        Ok(Reaction::Ends) => Effect::Done(0),
+        Err(fault) => Effect::Dropped(fault),
+    })
 }

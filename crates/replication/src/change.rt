@@ -15,15 +15,12 @@ pub fn elect<V: RecordKind, R: VoteRule>(
 ) -> Result<u16, ServiceFault>
     ensures { (s.new, result) ≡ elect_step R.VoteRule.elects s.old entries.now copy voters }
 {
-    if !s.logs.fits(entries.len()) {
-        return Err(ServiceFault::Memory);
-    }
+    s.check_entries(entries)?;
     if copy >= s.logs.copies || voters >> s.logs.copies > 0 {
         return Err(ServiceFault::NoSuch);
     }
     let rule = s.rule;
-    let term = leader::elect(rule, &mut s.logs, &mut s.lead, entries, copy, voters)?;
-    Ok(term)
+    Ok(leader::elect(rule, &mut s.logs, &mut s.lead, entries, copy, voters)?)
 }
 
 // Copies one entry of the leader's log to another copy; the answer is the length of its log.
@@ -34,14 +31,11 @@ pub fn copy<V: RecordKind, R: VoteRule>(
 ) -> Result<u16, ServiceFault>
     ensures { (s.new, entries.new, result) ≡ copy_step V.RecordKind.blank_value s.old entries.old copy }
 {
-    if !s.logs.fits(entries.len()) {
-        return Err(ServiceFault::Memory);
-    }
+    s.check_entries(entries)?;
     if copy >= s.logs.copies {
         return Err(ServiceFault::NoSuch);
     }
-    let length = leader::copy(&mut s.logs, entries, copy)?;
-    Ok(length)
+    Ok(leader::copy(&mut s.logs, entries, copy)?)
 }
 
 // Raises the leader's known count to n, which is the answer.
@@ -52,10 +46,7 @@ pub fn commit<V: RecordKind, R: VoteRule>(
 ) -> Result<u32, ServiceFault>
     ensures { (s.new, result) ≡ commit_step V.RecordKind.alike R.VoteRule.commits s.old entries.now n }
 {
-    if !s.logs.fits(entries.len()) {
-        return Err(ServiceFault::Memory);
-    }
+    s.check_entries(entries)?;
     let rule = s.rule;
-    let count = leader::commit(rule, &mut s.logs, entries, n)?;
-    Ok(count)
+    Ok(leader::commit(rule, &mut s.logs, entries, n)?)
 }

@@ -14,15 +14,14 @@ pub fn open<V: RecordKind, R: VoteRule>(
 ) -> Result<u32, ServiceFault>
     ensures { (s.new, result) ≡ open_step V.RecordKind.alike s.old entries.now }
 {
-    if !s.logs.fits(entries.len()) {
-        return Err(ServiceFault::Memory);
-    }
+    s.check_entries(entries)?;
     let snapshot = leader::open_session(&s.logs, &mut s.lead, entries)?;
     s.snapshot = Some(snapshot);
     Ok(snapshot.session)
 }
 
 // The fresh reply for the leader's entry i.
+#[tactic(auto, unfolding(crate::specs::Steps::fresh_reply))]
 fn fresh_reply<V: RecordKind, R: VoteRule>(
     s: &Service<R>,
     entries: &[Entry<V>],
@@ -30,11 +29,8 @@ fn fresh_reply<V: RecordKind, R: VoteRule>(
 ) -> Result<Message<V>, ServiceFault>
     ensures { result ≡ fresh_reply V.RecordKind.blank_value V.RecordKind.alike s.now entries.now i }
 {
-    if !s.logs.fits(entries.len()) {
-        return Err(ServiceFault::Memory);
-    }
-    let m = leader::reply(&s.logs, &s.lead, entries, i)?;
-    Ok(m)
+    s.check_entries(entries)?;
+    Ok(leader::reply(&s.logs, &s.lead, entries, i)?)
 }
 
 // Puts a fresh reply for the leader's entry i, which is the answer.
@@ -46,9 +42,7 @@ pub fn reply<V: RecordKind, R: VoteRule>(
 ) -> Result<u32, ServiceFault>
     ensures { (s.new, messages.new, result) ≡ reply_step V.RecordKind.blank_value V.RecordKind.alike s.old entries.now messages.old i }
 {
-    if !s.table.fits(messages.len()) {
-        return Err(ServiceFault::Memory);
-    }
+    s.check_messages(messages)?;
     let m = fresh_reply(s, entries, i)?;
     state::post(&mut s.table, messages, m)?;
     Ok(i)

@@ -1,5 +1,5 @@
 -- The steps of a client: the checks in their order, then the effect.
-use Rattle.std.specs.Prelude.{ℕ, Bool, cond, not, ◌||◌, List, length, Ok, Err, Result, ◌==◌, nat_le, nat_lt, slice_index_or, slice_set}
+use Rattle.std.specs.Prelude.{ℕ, Bool, cond, not, ◌||◌, List, length, Ok, Err, Result, ◌==◌, nat_lt, slice_index_or, slice_set}
 use Rattle.relay.specs.declared.message.Message.{Message}
 use Rattle.leader.specs.Faults.{lifted, on_result}
 use Rattle.client.specs.declared.client.Client.{Client}
@@ -9,7 +9,7 @@ use Rattle.client.specs.Client as client
 use Rattle.state.specs.declared.service.Service.{Service}
 use Rattle.state.specs.declared.fault.ServiceFault.{ServiceFault}
 use Rattle.state.specs.declared.fault.ServiceFault.TheVariants.{Memory, NoSuch, Malformed, Client as AtClient}
-use Rattle.state.specs.Memory.{table_fits, seats_fit, posted}
+use Rattle.state.specs.Memory.{table_fits, seats_fit, unseated, posted}
 use Rattle.state.specs.Parts.{idle_client, with_clients, with_table}
 
 -- stars are 1 to 65,535
@@ -17,21 +17,17 @@ abbrev pub no_star : ℕ → Bool
 no_star star = star == 0 || nat_lt 65535 star
 
 module _ {R : Type 0} where
-  -- there is no such client
-  abbrev pub unseated : Service R → ℕ → Bool
-  unseated s c = nat_le s.seats c || nat_le 8 c
-
   abbrev pub client_at : Service R → ℕ → Client
   client_at s c = slice_index_or s.clients c idle_client
 
   -- the number of the client's next request: 2, 9, 11
   abbrev pub begin_of : Service R → ℕ → ℕ → Result ℕ ServiceFault
-  begin_of s c star = cond (unseated s c || no_star star) (Err NoSuch) (lifted AtClient (client.next_number (client_at s c)))
+  begin_of s c star = cond (unseated s.seats c || no_star star) (Err NoSuch) (lifted AtClient (client.next_number (client_at s c)))
 
   -- abandon: 2, 10
   abbrev pub abandon_step : Service R → ℕ → Service R × Result (Unit {0}) ServiceFault
   abandon_step s c =
-      cond (unseated s c) (s, Err NoSuch)
+      cond (unseated s.seats c) (s, Err NoSuch)
       (let p = client.abandon_step (client_at s c) in (with_clients s (slice_set s.clients c p.0), lifted AtClient p.1))
 
   -- the client with a request of the number open
@@ -70,7 +66,7 @@ module _ {V R : Type 0} where
   abbrev pub open_request : V → Service R → List V → ℕ → Result (Message V) ServiceFault
   open_request blank s ks c =
       cond (not (seats_fit s.seats (length ks))) (Err Memory)
-      (cond (unseated s c) (Err NoSuch)
+      (cond (unseated s.seats c) (Err NoSuch)
       (lifted AtClient (client.repeated (client_at s c) c (slice_index_or ks c blank))))
 
   -- again: 1, 2, 10, 12

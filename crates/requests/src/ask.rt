@@ -1,4 +1,4 @@
-ghost use Rattle.std.specs.Prelude.{◌≡◌, ℕ, ◌<◌, ◌≤◌, length, OnOk, slice_set};
+ghost use Rattle.std.specs.Prelude.{◌≡◌, ℕ, ◌<◌, ◌≤◌, length, OnOk};
 ghost use Rattle.requests.specs.Clients.{begin_of, begin_correction, read_step, correct_step};
 
 use client::{Client, Waiting};
@@ -12,11 +12,11 @@ fn begin<R: VoteRule>(s: &Service<R>, client: u8, star: u32) -> Result<u16, Serv
     ensures value { result ≡ begin_of s.now client star }
     ensures bound { OnOk result ((client < 8) × (client < s.now.seats) × (star ≤ 65535)) }
 {
-    if client >= s.seats || client >= 8 || star == 0 || star > 65535 {
+    let seat = s.seat(client).ok_or(ServiceFault::NoSuch)?;
+    if star == 0 || star > 65535 {
         return Err(ServiceFault::NoSuch);
     }
-    let number = s.clients[client as usize].next_number()?;
-    Ok(number)
+    Ok(s.clients[seat].next_number()?)
 }
 
 // The client asks for the star's value; the answer is the request's number.
@@ -28,9 +28,7 @@ pub fn read<V: RecordKind, R: VoteRule>(
 ) -> Result<u16, ServiceFault>
     ensures { (s.new, messages.new, result) ≡ read_step s.old messages.old client star }
 {
-    if !s.table.fits(messages.len()) {
-        return Err(ServiceFault::Memory);
-    }
+    s.check_messages(messages)?;
     let number = begin(s, client, star)?;
     let star = star as u16;
     state::post(
@@ -56,21 +54,11 @@ fn begin_correction<V: RecordKind, R: VoteRule>(
     ensures value { result ≡ begin_correction V.RecordKind.well_formed s.now kept.now client star value }
     ensures bound { OnOk result ((client < 8) × (client < length kept.now) × (star ≤ 65535)) }
 {
-    if !state::seats_fit(s.seats, kept.len()) {
-        return Err(ServiceFault::Memory);
-    }
+    s.check_kept(kept)?;
     if !value.is_well_formed() {
         return Err(ServiceFault::Malformed);
     }
     begin(s, client, star)
-}
-
-// The client's value is kept.
-fn keep<V: RecordKind>(kept: &mut [V], client: u8, value: V)
-    requires { client < length kept.old }
-    ensures { kept.new ≡ slice_set kept.old client value }
-{
-    kept[client as usize] = value;
 }
 
 // The client corrects the star's value, which is kept; the answer is the request's number.
@@ -84,9 +72,7 @@ pub fn correct<V: RecordKind, R: VoteRule>(
 ) -> Result<u16, ServiceFault>
     ensures { (s.new, messages.new, kept.new, result) ≡ correct_step V.RecordKind.well_formed s.old messages.old kept.old client star value }
 {
-    if !s.table.fits(messages.len()) {
-        return Err(ServiceFault::Memory);
-    }
+    s.check_messages(messages)?;
     let number = begin_correction(s, kept, client, star, value)?;
     let star = star as u16;
     state::post(
@@ -98,6 +84,6 @@ pub fn correct<V: RecordKind, R: VoteRule>(
         number,
         waiting: Waiting::Correction { star },
     };
-    keep(kept, client, value);
+    kept[client as usize] = value;
     Ok(number)
 }

@@ -14,14 +14,9 @@ fn open_request<V: RecordKind, R: VoteRule>(
 ) -> Result<Message<V>, ServiceFault>
     ensures { result ≡ open_request V.RecordKind.blank_value s.now kept.now client }
 {
-    if !state::seats_fit(s.seats, kept.len()) {
-        return Err(ServiceFault::Memory);
-    }
-    if client >= s.seats || client >= 8 {
-        return Err(ServiceFault::NoSuch);
-    }
-    let m = s.clients[client as usize].repeat(client, kept[client as usize])?;
-    Ok(m)
+    s.check_kept(kept)?;
+    let seat = s.seat(client).ok_or(ServiceFault::NoSuch)?;
+    Ok(s.clients[seat].repeat(client, kept[seat])?)
 }
 
 // The client's open request is sent once more; the answer is its number.
@@ -33,9 +28,7 @@ pub fn again<V: RecordKind, R: VoteRule>(
 ) -> Result<u16, ServiceFault>
     ensures { (s.new, messages.new, result) ≡ again_step V.RecordKind.blank_value s.old messages.old kept.now client }
 {
-    if !s.table.fits(messages.len()) {
-        return Err(ServiceFault::Memory);
-    }
+    s.check_messages(messages)?;
     let m = open_request(s, kept, client)?;
     state::post(&mut s.table, messages, m)?;
     Ok(m.number)
@@ -45,9 +38,6 @@ pub fn again<V: RecordKind, R: VoteRule>(
 pub fn abandon<R: VoteRule>(s: &mut Service<R>, client: u8) -> Result<(), ServiceFault>
     ensures { (s.new, result) ≡ abandon_step s.old client }
 {
-    if client >= s.seats || client >= 8 {
-        return Err(ServiceFault::NoSuch);
-    }
-    s.clients[client as usize].abandon()?;
-    Ok(())
+    let seat = s.seat(client).ok_or(ServiceFault::NoSuch)?;
+    Ok(s.clients[seat].abandon()?)
 }

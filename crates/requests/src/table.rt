@@ -13,9 +13,7 @@ pub fn install<V: RecordKind, R: VoteRule>(
 ) -> Result<u32, ServiceFault>
     ensures { (s.new, messages.new, result) ≡ install_step s.old messages.old }
 {
-    if !s.table.fits(messages.len()) {
-        return Err(ServiceFault::Memory);
-    }
+    s.check_messages(messages)?;
     let snapshot = s.relay.installable(s.snapshot)?;
     let m = Message {
         client: 0,
@@ -45,12 +43,8 @@ pub fn lose<V: RecordKind, R: VoteRule>(
 ) -> Result<(), ServiceFault>
     ensures { (s.new, messages.new, result) ≡ lose_step s.old messages.old place }
 {
-    if !s.table.fits(messages.len()) {
-        return Err(ServiceFault::Memory);
-    }
-    if place >= s.table.count as u32 {
-        return Err(ServiceFault::NoSuch);
-    }
+    s.check_messages(messages)?;
+    s.check_place(place)?;
     let _ = state::take_message(&mut s.table, messages, place as u16);
     Ok(())
 }
@@ -63,12 +57,8 @@ pub fn double<V: RecordKind, R: VoteRule>(
 ) -> Result<u16, ServiceFault>
     ensures { (s.new, messages.new, result) ≡ double_step s.old messages.old place }
 {
-    if !s.table.fits(messages.len()) {
-        return Err(ServiceFault::Memory);
-    }
-    if place >= s.table.count as u32 {
-        return Err(ServiceFault::NoSuch);
-    }
+    s.check_messages(messages)?;
+    s.check_place(place)?;
     let m = messages[place as usize];
     state::post(&mut s.table, messages, m)?;
     Ok(s.table.count)

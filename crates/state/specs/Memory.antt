@@ -1,10 +1,10 @@
 -- What the service's numbers and the lent memory must be for a step to be carried out, and the message table.
-use Rattle.std.specs.Prelude.{ℕ, ◌+◌, ◌-◌, ◌≤◌, Bool, cond, ◌&&◌, List, None, Ok, Err, Result, nat_le, slice_index_or, slice_set}
+use Rattle.std.specs.Prelude.{ℕ, ◌+◌, ◌-◌, ◌≤◌, Bool, cond, ◌&&◌, ◌||◌, List, Some, None, Ok, Err, Option, Result, nat_le, slice_index_or, slice_set}
 use Rattle.relay.specs.declared.message.Body.TheVariants.{ReadRequest}
 use Rattle.relay.specs.declared.message.Message.{Message}
 use Rattle.state.specs.declared.service.Table.{Table}
 use Rattle.state.specs.declared.fault.ServiceFault.{ServiceFault}
-use Rattle.state.specs.declared.fault.ServiceFault.TheVariants.{TableFull}
+use Rattle.state.specs.declared.fault.ServiceFault.TheVariants.{Memory, NoSuch, TableFull}
 
 -- the table takes 1 to 256 messages, holds no more, and m places are enough for it
 abbrev pub table_fits : Table → ℕ → Bool
@@ -19,6 +19,22 @@ pub record TableShaped (t : Table) (m : ℕ) : Type 0 where
 -- there are 1 to 8 clients, and m kept values are enough for them
 abbrev pub seats_fit : ℕ → ℕ → Bool
 seats_fit n m = nat_le 1 n && nat_le n 8 && nat_le n m
+
+-- a step is refused where the lent memory is not enough
+abbrev pub enough : Bool → Result (Unit {0}) ServiceFault
+enough b = cond b (Ok tt) (Err Memory)
+
+-- there is no such client
+abbrev pub unseated : ℕ → ℕ → Bool
+unseated n c = nat_le n c || nat_le 8 c
+
+-- the client's seat among n that take part
+abbrev pub seat_of : ℕ → ℕ → Option ℕ
+seat_of n c = cond (unseated n c) None (Some c)
+
+-- a step is refused where no message is at the place
+abbrev pub occupied : Table → ℕ → Result (Unit {0}) ServiceFault
+occupied t i = cond (nat_le t.count i) (Err NoSuch) (Ok tt)
 
 abbrev pub with_count : Table → ℕ → Table
 with_count t n = record { size = t.size; count = n }

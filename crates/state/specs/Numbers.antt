@@ -1,5 +1,5 @@
 -- The number, layer and class of each refusal and drop.
-use Rattle.std.specs.Prelude.{ℕ, cond, nat_lt}
+use Rattle.std.specs.Prelude.{ℕ, cond, nat_lt, List, codes}
 use Rattle.raft_log.specs.declared.fault.LogFault.{LogFault}
 use Rattle.raft_log.specs.declared.fault.LogFault.TheVariants as log
 use Rattle.leader.specs.declared.fault.LeaderFault.{LeaderFault}
@@ -10,6 +10,8 @@ use Rattle.client.specs.declared.fault.ClientFault.{ClientFault}
 use Rattle.client.specs.declared.fault.ClientFault.TheVariants as client
 use Rattle.state.specs.declared.fault.ServiceFault.{ServiceFault}
 use Rattle.state.specs.declared.fault.ServiceFault.TheVariants.{Memory, NoSuch, TableFull, Malformed, Leader, Relay, Client}
+use Rattle.state.specs.declared.fault.Layer.{Layer}
+use Rattle.state.specs.declared.fault.Layer.TheVariants as at
 use Rattle.state.specs.declared.fault.Class.{Class}
 use Rattle.state.specs.declared.fault.Class.TheVariants.{Refused, Dropped}
 
@@ -56,26 +58,46 @@ number_of (Leader f) = leader_number f
 number_of (Relay f) = relay_number f
 number_of (Client f) = client_number f
 
--- 2 for the log, 3 for the leader's part
-abbrev pub leader_layer : LeaderFault → ℕ
-leader_layer leader.PartsUsedUp = 3
-leader_layer leader.NoReply = 3
-leader_layer leader.OtherSession = 3
-leader_layer leader.NumberNotAbove = 3
-leader_layer leader.NotReady = 3
-leader_layer leader.Uncommitted = 3
-leader_layer leader.TermBegun = 3
-leader_layer (leader.Log f) = 2
+-- the log's faults are found in the log, the others in the leader's part
+abbrev pub found_by_leader : LeaderFault → Layer
+found_by_leader leader.PartsUsedUp = at.Leader
+found_by_leader leader.NoReply = at.Leader
+found_by_leader leader.OtherSession = at.Leader
+found_by_leader leader.NumberNotAbove = at.Leader
+found_by_leader leader.NotReady = at.Leader
+found_by_leader leader.Uncommitted = at.Leader
+found_by_leader leader.TermBegun = at.Leader
+found_by_leader (leader.Log f) = at.Log
+
+-- the layer that found the fault
+abbrev pub found_in : ServiceFault → Layer
+found_in Memory = at.Service
+found_in NoSuch = at.Service
+found_in TableFull = at.Service
+found_in Malformed = at.Service
+found_in (Leader f) = found_by_leader f
+found_in (Relay f) = at.Relay
+found_in (Client f) = at.Client
 
 -- service 1, log 2, leader 3, relay 4, client 5
+abbrev pub layer_number : Layer → ℕ
+layer_number at.Service = 1
+layer_number at.Log = 2
+layer_number at.Leader = 3
+layer_number at.Relay = 4
+layer_number at.Client = 5
+
+-- what a person reads for the layer
+abbrev pub layer_name : Layer → List ℕ
+layer_name at.Service = codes "service"
+layer_name at.Log = codes "log"
+layer_name at.Leader = codes "leader"
+layer_name at.Relay = codes "relay"
+layer_name at.Client = codes "client"
+
+-- the number of the layer that found the fault
 abbrev pub layer_of : ServiceFault → ℕ
-layer_of Memory = 1
-layer_of NoSuch = 1
-layer_of TableFull = 1
-layer_of Malformed = 1
-layer_of (Leader f) = leader_layer f
-layer_of (Relay f) = 4
-layer_of (Client f) = 5
+layer_of f = layer_number (found_in f)
 
 -- numbers below 20 refuse a step, the others drop a message
 abbrev pub class_of : ServiceFault → Class

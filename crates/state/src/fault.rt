@@ -1,11 +1,12 @@
-ghost use Rattle.std.specs.Prelude.{◌≡◌};
-ghost use Rattle.state.specs.Numbers.{log_number, leader_number, relay_number, client_number, number_of, layer_of, class_of};
+ghost use Rattle.std.specs.Prelude.{◌≡◌, Some};
+ghost use Rattle.state.specs.Numbers.{log_number, leader_number, relay_number, client_number, number_of, found_in, layer_name, class_of};
 ghost use Rattle.state.specs.declared.fault.ServiceFault.TheVariants.{Leader, Relay, Client};
 
 use client::ClientFault;
 use leader::LeaderFault;
 use raft_log::LogFault;
 use relay::RelayFault;
+use std::fmt;
 
 // Why the service refuses a step, or drops a message.
 #[derive(Clone, Copy)]
@@ -22,12 +23,37 @@ pub enum ServiceFault {
 }
 
 // What a fault comes to: the step is refused, or the message dropped.
-#[derive(Clone, Copy)]
+#[derive(Clone, Copy, Debug, PartialEq, Eq)]
 pub enum Class {
-    Refused,
-    Dropped,
+    Refused = 1,
+    Dropped = 2,
 }
 
+// Where a fault is found. The layer's number is `layer as u8`.
+#[derive(Clone, Copy, Debug, PartialEq, Eq)]
+pub enum Layer {
+    Service = 1,
+    Log = 2,
+    Leader = 3,
+    Relay = 4,
+    Client = 5,
+}
+
+impl fmt::Display for Layer {
+    ghost output = { λ layer. Some (layer_name layer) };
+
+    fn fmt<W: fmt::Write>(&self, f: &mut fmt::Formatter<W>) -> fmt::Result {
+        f.write_str(match self {
+            Layer::Service => "service",
+            Layer::Log => "log",
+            Layer::Leader => "leader",
+            Layer::Relay => "relay",
+            Layer::Client => "client",
+        })
+    }
+}
+
+// By hand: what a `?` makes of a fault stands in `from_gives`, which no derive writes.
 impl From<LeaderFault> for ServiceFault {
     ghost from_gives = { λ e r. r ≡ Leader e };
 
@@ -52,6 +78,7 @@ impl From<ClientFault> for ServiceFault {
     }
 }
 
+// Numbers by `match`: `LeaderFault`, which holds a `LogFault`, can have no discriminants, and here they stand together.
 fn log_number(f: LogFault) -> u8
     ensures { result ≡ log_number f }
 {
@@ -122,16 +149,16 @@ impl ServiceFault {
         }
     }
 
-    // The layer that found the fault: service 1, log 2, leader 3, relay 4, client 5.
-    pub fn layer(self) -> u8
-        ensures { result ≡ layer_of self }
+    // The layer that found the fault.
+    pub fn layer(self) -> Layer
+        ensures { result ≡ found_in self }
     {
         match self {
-            ServiceFault::Leader(LeaderFault::Log(_)) => 2,
-            ServiceFault::Leader(_) => 3,
-            ServiceFault::Relay(_) => 4,
-            ServiceFault::Client(_) => 5,
-            _ => 1,
+            ServiceFault::Leader(LeaderFault::Log(_)) => Layer::Log,
+            ServiceFault::Leader(_) => Layer::Leader,
+            ServiceFault::Relay(_) => Layer::Relay,
+            ServiceFault::Client(_) => Layer::Client,
+            _ => Layer::Service,
         }
     }
 

@@ -9,8 +9,8 @@ mod service;
 mod shape;
 mod table;
 
-pub use fault::{Class, ServiceFault};
+pub use fault::{Class, Layer, ServiceFault};
 pub use memory::{blank_entry, blank_message, filled};
 pub use service::{Service, Table};
-pub use shape::{new_service, seats_fit};
+pub use shape::new_service;
 pub use table::{post, put_message, take_message};

@@ -11,11 +11,7 @@ use std::alloc::{AllocError, Global};
 pub fn filled<T: Copy>(heap: Global, x: T, n: usize) -> Result<Vec<T>, AllocError>
     ensures { IfOk result (λ v. vec_len v ≡ n) }
 {
-    let mut all = Vec::with_capacity(heap, n)?;
-    for k in 0..n {
-        all.push(x)?;
-    }
-    Ok(all)
+    vec![in heap; x; n]
 }
 
 // What stands in an entry that is not used.
@@ -46,5 +42,21 @@ pub fn blank_message<V: RecordKind>() -> Message<V>
         session: 0,
         body: Body::ReadRequest,
         value: None,
+    }
+}
+
+#[cfg(test)]
+mod tests {
+    use super::*;
+    use std::test::Fail;
+
+    #[test]
+    fn lends_as_much_as_is_asked(rt: HostRuntime) -> Result<(), Fail> {
+        for n in [0, 1, 192] {
+            let lent = filled(rt.alloc(), 7u8, n)?;
+            assert_eq!(rt; lent.len(), n);
+            assert!(rt; lent.iter().all(|x| *x == 7));
+        }
+        Ok(())
     }
 }

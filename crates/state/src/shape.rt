@@ -1,5 +1,6 @@
-ghost use Rattle.std.specs.Prelude.{◌≡◌, ℕ, ◌≤◌, true, length};
-ghost use Rattle.state.specs.Memory.{table_fits, TableShaped, seats_fit};
+ghost use Rattle.std.specs.Prelude.{◌≡◌, ℕ, ◌<◌, ◌≤◌, true, length, OnOk, IfSome};
+ghost use Rattle.copies.specs.Shape.{shaped, Shaped};
+ghost use Rattle.state.specs.Memory.{table_fits, TableShaped, seats_fit, enough, occupied, seat_of};
 ghost use Rattle.state.specs.Parts.{new_step};
 
 use crate::fault::ServiceFault;
@@ -25,12 +26,65 @@ impl Table {
     }
 }
 
-// Whether there are 1 to 8 clients, and n kept values are enough for them.
-pub fn seats_fit(seats: u8, n: usize) -> bool
-    ensures value { result ≡ seats_fit seats n }
-    ensures means { result ≡ true → (seats ≤ 8) × (seats ≤ n) }
+// Refuses where the lent memory is not enough.
+fn enough(fits: bool) -> Result<(), ServiceFault>
+    ensures { result ≡ enough fits }
 {
-    (seats >= 1) & (seats <= 8) & (seats as usize <= n)
+    if fits {
+        Ok(())
+    } else {
+        Err(ServiceFault::Memory)
+    }
+}
+
+impl<R> Service<R> {
+    // Refuses where the entries are too few for the logs, or a number of the logs is out of bounds.
+    pub fn check_entries<V: RecordKind>(&self, entries: &[Entry<V>]) -> Result<(), ServiceFault>
+        ensures value { result ≡ enough (shaped self.now.logs (length entries.now)) }
+        ensures means { OnOk result (Shaped self.now.logs (length entries.now)) }
+    {
+        enough(self.logs.fits(entries.len()))
+    }
+
+    // Refuses where the messages are too few for the table, or a number of the table is out of bounds.
+    pub fn check_messages<V: RecordKind>(&self, messages: &[Message<V>]) -> Result<(), ServiceFault>
+        ensures value { result ≡ enough (table_fits self.now.table (length messages.now)) }
+        ensures means { OnOk result (TableShaped self.now.table (length messages.now)) }
+    {
+        enough(self.table.fits(messages.len()))
+    }
+
+    // Refuses where the kept values are too few for the clients, or these are not 1 to 8.
+    pub fn check_kept<V: RecordKind>(&self, kept: &[V]) -> Result<(), ServiceFault>
+        ensures value { result ≡ enough (seats_fit self.now.seats (length kept.now)) }
+        ensures means { OnOk result (self.now.seats ≤ length kept.now) }
+    {
+        enough((self.seats >= 1) & (self.seats <= 8) & (self.seats as usize <= kept.len()))
+    }
+
+    // Refuses where there is no message at the place.
+    pub fn check_place(&self, place: u32) -> Result<(), ServiceFault>
+        ensures value { result ≡ occupied self.now.table place }
+        ensures means { OnOk result (place < self.now.table.count) }
+    {
+        if place < self.table.count as u32 {
+            Ok(())
+        } else {
+            Err(ServiceFault::NoSuch)
+        }
+    }
+
+    // The client's seat, if it takes part.
+    pub fn seat(&self, client: u8) -> Option<usize>
+        ensures value { result ≡ seat_of self.now.seats client }
+        ensures bound { IfSome result (λ k. (k < 8) × (k < self.now.seats)) }
+    {
+        if (client < self.seats) & (client < 8) {
+            Some(client as usize)
+        } else {
+            None
+        }
+    }
 }
 
 // A new service for the rule's number of copies: logs of the given capacity, a table of the given
@@ -47,21 +101,11 @@ pub fn new_service<V: RecordKind, R: VoteRule>(
     ensures { result ≡ new_step rule (R.VoteRule.count rule) capacity size seats (length entries.now) (length messages.now) (length kept.now) }
 {
     let logs = Logs::new(rule.copies(), capacity);
-    if !logs.fits(entries.len()) {
-        return Err(ServiceFault::Memory);
-    }
-    let table = Table { size, count: 0 };
-    if !table.fits(messages.len()) {
-        return Err(ServiceFault::Memory);
-    }
-    if !seats_fit(seats, kept.len()) {
-        return Err(ServiceFault::Memory);
-    }
     let client = Client {
         number: 0,
         waiting: Waiting::Nothing,
     };
-    Ok(Service {
+    let s = Service {
         rule,
         logs,
         lead: Lead { part: 0, last: 0 },
@@ -69,6 +113,10 @@ pub fn new_service<V: RecordKind, R: VoteRule>(
         relay: Relay::closed(0),
         clients: [client; 8],
         seats,
-        table,
-    })
+        table: Table { size, count: 0 },
+    };
+    s.check_entries(entries)?;
+    s.check_messages(messages)?;
+    s.check_kept(kept)?;
+    Ok(s)
 }
