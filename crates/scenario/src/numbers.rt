@@ -13,6 +13,7 @@ fn with_digit(n: u32, byte: u8, most: u32) -> Option<u32>
 }
 
 // The number that the bytes write in decimal digits, if it is at most `most`.
+#[tactic(auto, using(crate::proofs::Reading::place_no, crate::proofs::Reading::place_yes, crate::proofs::Reading::place_end, crate::proofs::Reading::whole))]
 pub fn decimal(word: &[u8], most: u32) -> Option<u32>
     ensures { result ≡ decimal most word.now }
 {
