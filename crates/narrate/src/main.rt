@@ -32,27 +32,24 @@ fn tell_input(rt: &HostRuntime) -> anyhow::Result<()> {
 }
 
 fn tell_files(rt: &HostRuntime, names: Args) -> anyhow::Result<()> {
-    let mut first = true;
-    for name in names.skip(1) {
-        if !first {
-            println!(rt)?;
-        }
-        first = false;
+    let mut names = names.skip(1);
+    let Some(first) = names.next() else {
+        return tell_input(rt);
+    };
+    tell_file(rt, first.as_str())?;
+    for name in names {
+        println!(rt)?;
         tell_file(rt, name.as_str())?;
     }
-    if first { tell_input(rt) } else { Ok(()) }
+    Ok(())
 }
 
-fn run(rt: &HostRuntime) -> anyhow::Result<()> {
-    match env::args(rt) {
-        Ok(names) => tell_files(rt, names),
+fn main(rt: HostRuntime) -> anyhow::Result<()> {
+    match env::args(&rt) {
+        Ok(names) => tell_files(&rt, names),
         Err(_) => {
             println!(rt; "cannot read the names of the files")?;
             Ok(())
         }
     }
-}
-
-fn main(rt: HostRuntime) -> anyhow::Result<()> {
-    run(&rt)
 }

@@ -1,4 +1,5 @@
 // What the service holds, in words: sessions, stamps, sets, places, entries, rows, clients and messages.
+// Each text is a type of its own, since the types that it tells of belong to crates with no words.
 #![tactic(auto)]
 
 mod messages;

@@ -5,13 +5,16 @@ use std::fmt;
 
 // Whose request a message serves.
 #[derive(Drop)]
-struct RequestText(u8, u16, u16);
+struct RequestText(Message<Place>);
 
 impl fmt::Display for RequestText {
     fn fmt<W: fmt::Write>(&self, f: &mut fmt::Formatter<W>) -> fmt::Result {
-        let client = self.0;
-        let number = self.1;
-        let star = self.2;
+        let Message {
+            client,
+            number,
+            star,
+            ..
+        } = self.0;
         write!(f, "client {client}, number {number}, star {star}")
     }
 }
@@ -22,8 +25,8 @@ pub struct OutcomeText(pub Outcome, pub u16);
 
 impl fmt::Display for OutcomeText {
     fn fmt<W: fmt::Write>(&self, f: &mut fmt::Formatter<W>) -> fmt::Result {
-        let index = self.1;
-        match self.0 {
+        let OutcomeText(outcome, index) = *self;
+        match outcome {
             Outcome::Fresh => write!(f, "accepted fresh at index {index}"),
             Outcome::KnownAlready => write!(f, "accepted, known already at index {index}"),
             Outcome::Unlawful => f.write_str("refused as unlawful"),
@@ -31,6 +34,7 @@ impl fmt::Display for OutcomeText {
     }
 }
 
+// The word alone: a text with Display would be this match with a type around it.
 fn outcome_word(outcome: Outcome) -> &'static str {
     match outcome {
         Outcome::Fresh => "fresh",
@@ -45,9 +49,8 @@ pub struct BriefText(pub Message<Place>);
 
 impl fmt::Display for BriefText {
     fn fmt<W: fmt::Write>(&self, f: &mut fmt::Formatter<W>) -> fmt::Result {
-        let m = self.0;
-        let request = RequestText(m.client, m.number, m.star);
-        match m.body {
+        let request = RequestText(self.0);
+        match self.0.body {
             Body::ReadRequest => write!(f, "read request of {request}"),
             Body::CorrectionRequest => write!(f, "correction request of {request}"),
             Body::CopyRead { copy, .. } => write!(f, "copy read to copy {copy}: {request}"),
@@ -55,14 +58,17 @@ impl fmt::Display for BriefText {
             Body::Correction { sequence } => {
                 write!(f, "correction with sequence number {sequence}: {request}")
             }
-            Body::Installed => write!(f, "installed message: session {}", SessionText(m.session)),
+            Body::Installed => write!(
+                f,
+                "installed message: session {}",
+                SessionText(self.0.session)
+            ),
             Body::LeaderReply => write!(f, "read reply of the leader: {request}"),
             Body::CopyReply { copy, .. } => write!(f, "read reply of copy {copy}: {request}"),
             Body::CorrectionReply { outcome, .. } => {
                 write!(f, "{} correction reply: {request}", outcome_word(outcome))
             }
-            Body::ReadAnswer => write!(f, "answer to {request}"),
-            Body::CorrectionAnswer { .. } => write!(f, "answer to {request}"),
+            Body::ReadAnswer | Body::CorrectionAnswer { .. } => write!(f, "answer to {request}"),
         }
     }
 }
@@ -76,13 +82,13 @@ impl fmt::Display for DetailText {
         let session = SessionText(self.0.session);
         let value = ValueText(self.0.value);
         match self.0.body {
-            Body::ReadRequest => Ok(()),
-            Body::CorrectionRequest => write!(f, ": {value}"),
+            Body::ReadRequest | Body::Installed => Ok(()),
+            Body::CorrectionRequest | Body::ReadAnswer => write!(f, ": {value}"),
             Body::CopyRead { index, .. } => write!(f, ", index {index}, session {session}"),
             Body::LeaderRead => write!(f, ", session {session}"),
-            Body::Correction { .. } => write!(f, ", session {session}: {value}"),
-            Body::Installed => Ok(()),
-            Body::LeaderReply => write!(f, ", session {session}: {value}"),
+            Body::Correction { .. } | Body::LeaderReply => {
+                write!(f, ", session {session}: {value}")
+            }
             Body::CopyReply { stamp, .. } => {
                 let stamp = StampText(stamp);
                 write!(f, ", session {session}, {stamp}: {value}")
@@ -100,10 +106,8 @@ impl fmt::Display for DetailText {
                 }
                 Outcome::Unlawful => write!(f, ", session {session}"),
             },
-            Body::ReadAnswer => write!(f, ": {value}"),
             Body::CorrectionAnswer { outcome, index } => {
-                let outcome = OutcomeText(outcome, index);
-                write!(f, ": {outcome}")
+                write!(f, ": {}", OutcomeText(outcome, index))
             }
         }
     }

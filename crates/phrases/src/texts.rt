@@ -10,9 +10,7 @@ pub struct SessionText(pub u32);
 
 impl fmt::Display for SessionText {
     fn fmt<W: fmt::Write>(&self, f: &mut fmt::Formatter<W>) -> fmt::Result {
-        let term = self.0 / 65536;
-        let part = self.0 % 65536;
-        write!(f, "{term}.{part}")
+        write!(f, "{}.{}", self.0 / 65536, self.0 % 65536)
     }
 }
 
@@ -21,12 +19,12 @@ pub struct StampText(pub Stamp);
 
 impl fmt::Display for StampText {
     fn fmt<W: fmt::Write>(&self, f: &mut fmt::Formatter<W>) -> fmt::Result {
-        if self.0.session == 0 {
-            return f.write_str("no entry of the zone");
+        match self.0 {
+            Stamp { session: 0, .. } => f.write_str("no entry of the zone"),
+            Stamp { session, number } => {
+                write!(f, "stamp {} number {number}", SessionText(session))
+            }
         }
-        let session = SessionText(self.0.session);
-        let number = self.0.number;
-        write!(f, "stamp {session} number {number}")
     }
 }
 
@@ -55,14 +53,16 @@ pub struct PlaceText(pub Place);
 
 impl fmt::Display for PlaceText {
     fn fmt<W: fmt::Write>(&self, f: &mut fmt::Formatter<W>) -> fmt::Result {
-        let ra = self.0.ascension;
-        let dec = self.0.declination;
-        let motion_ra = self.0.motion_ra;
-        let motion_dec = self.0.motion_dec;
-        let year = self.0.year;
+        let Place {
+            ascension,
+            declination,
+            motion_ra,
+            motion_dec,
+            year,
+        } = self.0;
         write!(
             f,
-            "ra {ra} dec {dec} pm {motion_ra} {motion_dec} year {year}"
+            "ra {ascension} dec {declination} pm {motion_ra} {motion_dec} year {year}"
         )
     }
 }
@@ -85,17 +85,19 @@ pub struct EntryText(pub Entry<Place>);
 
 impl fmt::Display for EntryText {
     fn fmt<W: fmt::Write>(&self, f: &mut fmt::Formatter<W>) -> fmt::Result {
-        let e = self.0;
-        let term = e.term;
-        let stamp = StampText(e.stamp);
-        write!(f, "term {term}  {stamp}  ")?;
-        if e.star == 0 {
+        let Entry {
+            term,
+            stamp,
+            star,
+            client,
+            number,
+            value,
+        } = self.0;
+        write!(f, "term {term}  {}  ", StampText(stamp))?;
+        if star == 0 {
             return f.write_str("opening entry");
         }
-        let client = e.client;
-        let number = e.number;
-        let star = e.star;
-        let place = PlaceText(e.value);
+        let place = PlaceText(value);
         write!(f, "client {client} number {number}  star {star}  {place}")
     }
 }
@@ -135,8 +137,8 @@ pub struct ClientText(pub Client);
 
 impl fmt::Display for ClientText {
     fn fmt<W: fmt::Write>(&self, f: &mut fmt::Formatter<W>) -> fmt::Result {
-        let number = self.0.number;
-        match self.0.waiting {
+        let Client { number, waiting } = self.0;
+        match waiting {
             Waiting::Nothing => write!(f, "idle, last number {number}"),
             Waiting::Reading { star } => write!(
                 f,
@@ -156,10 +158,9 @@ pub struct EntriesText(pub u32);
 
 impl fmt::Display for EntriesText {
     fn fmt<W: fmt::Write>(&self, f: &mut fmt::Formatter<W>) -> fmt::Result {
-        let count = self.0;
-        if count == 1 {
-            return f.write_str("1 entry");
+        match self.0 {
+            1 => f.write_str("1 entry"),
+            count => write!(f, "{count} entries"),
         }
-        write!(f, "{count} entries")
     }
 }

@@ -11,16 +11,12 @@ use votes::VoteRule;
 // For every record kind and every vote rule: however elections, appends, copies, commits and rises
 // of known counts follow one another, the committed log only grows, every copy keeps what it holds
 // of it, and a leader has all of it.
-pub fn committed_stays<V: RecordKind, R: VoteRule>(rule: R) -> u8
+pub fn committed_stays<V: RecordKind, R: VoteRule>(rule: R)
     ensures { Admitted (R.VoteRule.count rule) → Stays V.RecordKind.alike (R.VoteRule.commits rule) (R.VoteRule.elects rule) (R.VoteRule.count rule) }
-{
-    0
-}
+{}
 
 // A run that commits under one leader and then under another, whose entry takes the place of one
 // that was not committed.
-pub fn commits_twice() -> u8
+pub fn commits_twice()
     ensures { CommitsTwice }
-{
-    0
-}
+{}

@@ -17,24 +17,16 @@ pub enum Line<'a> {
     Unreadable(&'a [u8], Option<Name>),
 }
 
-// A line without its comment.
-fn read_words<'a>(text: &'a [u8]) -> Line<'a> {
+// A line without its comment, or, where it is unreadable, its first word if that is known.
+fn read_words<'a>(text: &[u8]) -> Result<Line<'a>, Option<Name>> {
     let mut words = Words::new(text);
     let Some(word) = words.next() else {
-        return Line::Blank;
+        return Ok(Line::Blank);
     };
-    let Some(name) = Name::read(word) else {
-        return Line::Unreadable(text, None);
-    };
-    if let Name::Service = name {
-        return match Sizes::read(&mut words) {
-            Some(sizes) => Line::Choice(sizes),
-            None => Line::Unreadable(text, Some(name)),
-        };
-    }
-    match read_step(name, &mut words) {
-        Some(call) => Line::Step(call),
-        None => Line::Unreadable(text, Some(name)),
+    let name = Name::read(word).ok_or(None)?;
+    match name {
+        Name::Service => Ok(Line::Choice(Sizes::read(&mut words).ok_or(Some(name))?)),
+        _ => Ok(Line::Step(read_step(name, &mut words).ok_or(Some(name))?)),
     }
 }
 
@@ -44,5 +36,6 @@ pub fn read_line<'a>(line: &'a [u8]) -> Line<'a> {
     if text.first() == Some(&b'#') {
         return Line::Narration(text);
     }
-    read_words(before_comment(text).trim_ascii())
+    let text = before_comment(text).trim_ascii();
+    read_words(text).unwrap_or_else(|name| Line::Unreadable(text, name))
 }

@@ -1,21 +1,19 @@
-ghost use Rattle.std.specs.Prelude.{◌≡◌, cond, pos, ◌-ℤ◌, Some, None};
-ghost use Rattle.scenario.specs.Numbers.{decimal, with_digit, below_zero, above_zero, integer};
+ghost use Rattle.std.specs.Prelude.{◌≡◌};
+ghost use Rattle.scenario.specs.Numbers.{decimal, with_digit, integer};
 
 // The number with one more digit, if the byte is one and the number stays within `most`.
 fn with_digit(n: u32, byte: u8, most: u32) -> Option<u32>
     ensures { result ≡ with_digit most n byte }
 {
-    if byte < 48 || byte > 57 {
+    if !byte.is_ascii_digit() {
         return None;
     }
-    let more = n as u64 * 10 + (byte - 48) as u64;
-    if more > most as u64 {
-        return None;
-    }
-    Some(more as u32)
+    let more = n.checked_mul(10)?.checked_add(u32::from(byte - b'0'))?;
+    (more <= most).then_some(more)
 }
 
 // The number that the bytes write in decimal digits, if it is at most `most`.
+#[tactic(auto, using(crate::proofs::Reading::place_no, crate::proofs::Reading::place_yes, crate::proofs::Reading::place_end, crate::proofs::Reading::whole))]
 pub fn decimal(word: &[u8], most: u32) -> Option<u32>
     ensures { result ≡ decimal most word.now }
 {
@@ -24,47 +22,17 @@ pub fn decimal(word: &[u8], most: u32) -> Option<u32>
     }
     let mut n = 0;
     for byte in word {
-        match with_digit(n, *byte, most) {
-            Some(more) => n = more,
-            None => return None,
-        }
+        n = with_digit(n, *byte, most)?;
     }
     Some(n)
-}
-
-// The number below zero that has this size.
-fn negative(size: u32) -> i64
-    ensures { result ≡ pos 0 -ℤ pos size }
-{
-    0 - size as i64
-}
-
-// The number below zero that has the size that the bytes write.
-fn below_zero(word: &[u8]) -> Option<i64>
-    ensures { result ≡ below_zero word.now }
-{
-    match decimal(word, u32::MAX) {
-        Some(size) => Some(negative(size)),
-        None => None,
-    }
-}
-
-fn above_zero(word: &[u8]) -> Option<i64>
-    ensures { result ≡ above_zero word.now }
-{
-    match decimal(word, u32::MAX) {
-        Some(size) => Some(size as i64),
-        None => None,
-    }
 }
 
 // The number of 32 bits that the bytes write, with a minus sign before it or none.
 pub fn integer(word: &[u8]) -> Option<i64>
     ensures { result ≡ integer word.now }
 {
-    if word.is_empty() || word[0] != 45 {
-        return above_zero(word);
+    match word {
+        [b'-', digits @ ..] => decimal(digits, u32::MAX).map(|size| -i64::from(size)),
+        _ => decimal(word, u32::MAX).map(i64::from),
     }
-    let (_, digits) = word.split_at(1);
-    below_zero(digits)
 }

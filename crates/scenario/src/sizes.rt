@@ -8,6 +8,16 @@ pub enum Rule {
     EveryCopy,
 }
 
+impl Rule {
+    fn read(word: &[u8]) -> Option<Rule> {
+        match word {
+            b"majority" => Some(Rule::Majority),
+            b"every" => Some(Rule::EveryCopy),
+            _ => None,
+        }
+    }
+}
+
 // The sizes of a service, and its vote rule.
 #[derive(Clone, Copy)]
 pub struct Sizes {
@@ -28,43 +38,16 @@ enum Part {
     Clients,
 }
 
-const PARTS: [Part; 5] = [
-    Part::Copies,
-    Part::Rule,
-    Part::Log,
-    Part::Messages,
-    Part::Clients,
-];
-
 impl Part {
-    fn word(self) -> &'static str {
-        match self {
-            Part::Copies => "copies",
-            Part::Rule => "rule",
-            Part::Log => "log",
-            Part::Messages => "messages",
-            Part::Clients => "clients",
-        }
-    }
-
     fn read(word: &[u8]) -> Option<Part> {
-        for part in PARTS {
-            if part.word().as_bytes() == word {
-                return Some(part);
-            }
+        match word {
+            b"copies" => Some(Part::Copies),
+            b"rule" => Some(Part::Rule),
+            b"log" => Some(Part::Log),
+            b"messages" => Some(Part::Messages),
+            b"clients" => Some(Part::Clients),
+            _ => None,
         }
-        None
-    }
-}
-
-fn read_rule(word: &[u8]) -> Option<Rule> {
-    if word == b"majority".as_slice() {
-        return Some(Rule::Majority);
-    }
-    if word == b"every".as_slice() {
-        Some(Rule::EveryCopy)
-    } else {
-        None
     }
 }
 
@@ -85,11 +68,11 @@ impl Sizes {
         ensures left { length words.new.rest.now ≤ length words.old.rest.now }
     {
         match part {
-            Part::Copies => self.copies = words.byte()?,
-            Part::Rule => self.rule = read_rule(words.next()?)?,
-            Part::Log => self.log = words.small()?,
-            Part::Messages => self.messages = words.small()?,
-            Part::Clients => self.clients = words.byte()?,
+            Part::Copies => self.copies = words.unsigned()?,
+            Part::Rule => self.rule = Rule::read(words.next()?)?,
+            Part::Log => self.log = words.unsigned()?,
+            Part::Messages => self.messages = words.unsigned()?,
+            Part::Clients => self.clients = words.unsigned()?,
         }
         Some(())
     }

@@ -25,52 +25,26 @@ pub enum Name {
     Service,
 }
 
-const NAMES: [Name; 15] = [
-    Name::Elect,
-    Name::Open,
-    Name::Install,
-    Name::Restart,
-    Name::Read,
-    Name::Correct,
-    Name::Again,
-    Name::Abandon,
-    Name::Deliver,
-    Name::Lose,
-    Name::Double,
-    Name::Copy,
-    Name::Commit,
-    Name::Reply,
-    Name::Service,
-];
-
 impl Name {
-    fn word(self) -> &'static str {
-        match self {
-            Name::Elect => "elect",
-            Name::Open => "open",
-            Name::Install => "install",
-            Name::Restart => "restart",
-            Name::Read => "read",
-            Name::Correct => "correct",
-            Name::Again => "again",
-            Name::Abandon => "abandon",
-            Name::Deliver => "deliver",
-            Name::Lose => "lose",
-            Name::Double => "double",
-            Name::Copy => "copy",
-            Name::Commit => "commit",
-            Name::Reply => "reply",
-            Name::Service => "service",
-        }
-    }
-
     pub fn read(word: &[u8]) -> Option<Name> {
-        for name in NAMES {
-            if name.word().as_bytes() == word {
-                return Some(name);
-            }
+        match word {
+            b"elect" => Some(Name::Elect),
+            b"open" => Some(Name::Open),
+            b"install" => Some(Name::Install),
+            b"restart" => Some(Name::Restart),
+            b"read" => Some(Name::Read),
+            b"correct" => Some(Name::Correct),
+            b"again" => Some(Name::Again),
+            b"abandon" => Some(Name::Abandon),
+            b"deliver" => Some(Name::Deliver),
+            b"lose" => Some(Name::Lose),
+            b"double" => Some(Name::Double),
+            b"copy" => Some(Name::Copy),
+            b"commit" => Some(Name::Commit),
+            b"reply" => Some(Name::Reply),
+            b"service" => Some(Name::Service),
+            _ => None,
         }
-        None
     }
 
     // What a line with this first word looks like.
@@ -107,37 +81,33 @@ fn with_copy(set: u8, copy: u32) -> u8
 
 // The set of the copies, 0 to 7, that the rest of the line names.
 fn voters(words: &mut Words) -> Option<u8> {
-    let mut set = 0;
-    while let Some(word) = words.next() {
-        set = with_copy(set, decimal(word, 7)?);
-    }
-    Some(set)
+    words.try_fold(0, |set, word| Some(with_copy(set, decimal(word, 7)?)))
 }
 
 fn elect(words: &mut Words) -> Option<Call<Place>> {
-    let copy = words.byte()?;
+    let copy = words.unsigned()?;
     words.pass(b"by")?;
     let voters = voters(words)?;
     Some(Call::Elect { copy, voters })
 }
 
 fn read(words: &mut Words) -> Option<Call<Place>> {
-    let client = words.byte()?;
+    let client = words.unsigned()?;
     words.pass(b"star")?;
-    let star = words.number()?;
+    let star = words.unsigned()?;
     Some(Call::Read { client, star })
 }
 
 fn place(words: &mut Words) -> Option<Place> {
     words.pass(b"ra")?;
-    let ascension = words.number()?;
+    let ascension = words.unsigned()?;
     words.pass(b"dec")?;
-    let declination = words.angle()?;
+    let declination = words.signed()?;
     words.pass(b"pm")?;
-    let motion_ra = words.motion()?;
-    let motion_dec = words.motion()?;
+    let motion_ra = words.signed()?;
+    let motion_dec = words.signed()?;
     words.pass(b"year")?;
-    let year = words.small()?;
+    let year = words.unsigned()?;
     Some(Place {
         ascension,
         declination,
@@ -148,9 +118,9 @@ fn place(words: &mut Words) -> Option<Place> {
 }
 
 fn correct(words: &mut Words) -> Option<Call<Place>> {
-    let client = words.byte()?;
+    let client = words.unsigned()?;
     words.pass(b"star")?;
-    let star = words.number()?;
+    let star = words.unsigned()?;
     let value = place(words)?;
     Some(Call::Correct {
         client,
@@ -159,7 +129,7 @@ fn correct(words: &mut Words) -> Option<Call<Place>> {
     })
 }
 
-// The step of this name, with its arguments.
+// The step of this name, with its arguments: an arm for each, since each makes its own variant.
 fn arguments(name: Name, words: &mut Words) -> Option<Call<Place>> {
     match name {
         Name::Elect => elect(words),
@@ -169,28 +139,28 @@ fn arguments(name: Name, words: &mut Words) -> Option<Call<Place>> {
         Name::Read => read(words),
         Name::Correct => correct(words),
         Name::Again => Some(Call::Again {
-            client: words.byte()?,
+            client: words.unsigned()?,
         }),
         Name::Abandon => Some(Call::Abandon {
-            client: words.byte()?,
+            client: words.unsigned()?,
         }),
         Name::Deliver => Some(Call::Deliver {
-            place: words.number()?,
+            place: words.unsigned()?,
         }),
         Name::Lose => Some(Call::Lose {
-            place: words.number()?,
+            place: words.unsigned()?,
         }),
         Name::Double => Some(Call::Double {
-            place: words.number()?,
+            place: words.unsigned()?,
         }),
         Name::Copy => Some(Call::Copy {
-            copy: words.byte()?,
+            copy: words.unsigned()?,
         }),
         Name::Commit => Some(Call::Commit {
-            count: words.number()?,
+            count: words.unsigned()?,
         }),
         Name::Reply => Some(Call::Reply {
-            index: words.number()?,
+            index: words.unsigned()?,
         }),
         Name::Service => None,
     }
@@ -199,5 +169,5 @@ fn arguments(name: Name, words: &mut Words) -> Option<Call<Place>> {
 // The step of this name, if its arguments are there and nothing follows them.
 pub fn read_step(name: Name, words: &mut Words) -> Option<Call<Place>> {
     let call = arguments(name, words)?;
-    if words.ended() { Some(call) } else { None }
+    words.ended().then_some(call)
 }

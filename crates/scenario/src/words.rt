@@ -1,4 +1,5 @@
-ghost use Rattle.std.specs.Prelude.{◌≡◌, ℕ, ◌<◌, ◌≤◌, length, OnSome};
+ghost use Rattle.std.specs.Prelude.{◌≡◌, ◌<◌, ◌≤◌, length, OnSome};
+ghost use Rattle.std.specs.Iterator.{at_most};
 
 use crate::numbers::{decimal, integer};
 
@@ -8,16 +9,22 @@ pub struct Words<'a> {
     rest: &'a [u8],
 }
 
-// How many bytes stand before the first blank.
-fn word_length(text: &[u8]) -> usize
-    ensures bound { result ≤ length text.now }
-{
-    for (i, byte) in text.iter().enumerate() {
-        if byte.is_ascii_whitespace() {
-            return i;
+impl<'a> Iterator for Words<'a> {
+    type Item = &'a [u8];
+
+    ghost next_gives = { λ s r t. (length t.rest.now ≤ length s.rest.now) × OnSome r (length t.rest.now < length s.rest.now) };
+
+    ghost remaining = { λ s. at_most (length s.rest.now) };
+
+    fn next(&mut self) -> Option<&'a [u8]> {
+        let text = self.rest.trim_ascii_start();
+        let word = text.split(u8::is_ascii_whitespace).next()?;
+        if word.is_empty() {
+            return None;
         }
+        self.rest = &text[word.len()..];
+        Some(word)
     }
-    text.len()
 }
 
 impl<'a> Words<'a> {
@@ -25,24 +32,9 @@ impl<'a> Words<'a> {
         Words { rest: line }
     }
 
-    // The next word, if there is one.
-    pub fn next(&mut self) -> Option<&'a [u8]>
-        ensures left { length self.new.rest.now ≤ length self.old.rest.now }
-        ensures some { OnSome result (length self.new.rest.now < length self.old.rest.now) }
-    {
-        let text = self.rest.trim_ascii_start();
-        let n = word_length(text);
-        if n == 0 {
-            return None;
-        }
-        let (word, rest) = text.split_at(n);
-        self.rest = rest;
-        Some(word)
-    }
-
     // Reads past one word, if it is the next.
     pub fn pass(&mut self, word: &[u8]) -> Option<()> {
-        if self.next()? == word { Some(()) } else { None }
+        (self.next()? == word).then_some(())
     }
 
     // Whether no word is left.
@@ -50,34 +42,21 @@ impl<'a> Words<'a> {
         self.next().is_none()
     }
 
-    // The next word as a number of 32 bits.
-    pub fn number(&mut self) -> Option<u32>
+    // The next word as a number of at most 32 bits that fits the type.
+    pub fn unsigned<T: TryFrom<u32>>(&mut self) -> Option<T>
+    where
+        <T as TryFrom<u32>>::Error: Drop,
         ensures left { length self.new.rest.now ≤ length self.old.rest.now }
     {
-        decimal(self.next()?, u32::MAX)
+        T::try_from(decimal(self.next()?, u32::MAX)?).ok()
     }
 
-    // The same of 16 bits.
-    pub fn small(&mut self) -> Option<u16>
+    // The same with a sign.
+    pub fn signed<T: TryFrom<i64>>(&mut self) -> Option<T>
+    where
+        <T as TryFrom<i64>>::Error: Drop,
         ensures left { length self.new.rest.now ≤ length self.old.rest.now }
     {
-        u16::try_from(self.number()?).ok()
-    }
-
-    // The same of 8 bits.
-    pub fn byte(&mut self) -> Option<u8>
-        ensures left { length self.new.rest.now ≤ length self.old.rest.now }
-    {
-        u8::try_from(self.number()?).ok()
-    }
-
-    // The next word as a number of 32 bits with a sign.
-    pub fn angle(&mut self) -> Option<i32> {
-        i32::try_from(integer(self.next()?)?).ok()
-    }
-
-    // The same of 16 bits.
-    pub fn motion(&mut self) -> Option<i16> {
-        i16::try_from(integer(self.next()?)?).ok()
+        T::try_from(integer(self.next()?)?).ok()
     }
 }

@@ -7,14 +7,17 @@ pub struct SizesText(pub Sizes);
 
 impl fmt::Display for SizesText {
     fn fmt<W: fmt::Write>(&self, f: &mut fmt::Formatter<W>) -> fmt::Result {
-        let copies = self.0.copies;
-        let rule = match self.0.rule {
+        let Sizes {
+            copies,
+            rule,
+            log,
+            messages,
+            clients,
+        } = self.0;
+        let rule = match rule {
             Rule::Majority => "majority",
             Rule::EveryCopy => "every",
         };
-        let log = self.0.log;
-        let messages = self.0.messages;
-        let clients = self.0.clients;
         write!(f, "service copies {copies} rule {rule} log {log} ")?;
         write!(f, "messages {messages} clients {clients}")
     }
@@ -42,8 +45,8 @@ pub struct SafeText<'a>(pub &'a [u8]);
 // The byte as a character, a blank for a tab, and `?` where it is not printable.
 fn printable(byte: u8) -> char {
     match byte {
-        9 => ' ',
-        32..=126 => byte as char,
+        b'\t' => ' ',
+        b' '..=b'~' => byte as char,
         _ => '?',
     }
 }

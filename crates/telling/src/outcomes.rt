@@ -1,16 +1,16 @@
-use crate::sentences::{layer_name, sentence};
+use crate::sentences::sentence;
+use crate::story::Story;
 use client::Answer;
 use kinds::Place;
 use phrases::{EntriesText, MessageText, OutcomeText, RowText, SessionText, ValueText};
 use relay::{Body, Message, Relay, Row, Snapshot};
-use scenario::Memory;
 use service::Call;
-use state::{Service, ServiceFault};
+use state::ServiceFault;
 use std::alloc::AllocError;
 use std::fmt::Write;
 use votes::VoteRule;
 
-const INDENT: &str = "         ";
+pub const INDENT: &str = "         ";
 
 // A refusal or a drop, with its number, its layer and its reason.
 pub fn tell_fault(
@@ -20,7 +20,7 @@ pub fn tell_fault(
     call: &Call<Place>,
 ) -> Result<(), AllocError> {
     let number = fault.number();
-    let layer = layer_name(fault.layer());
+    let layer = fault.layer();
     let reason = sentence(fault, call);
     writeln!(out, "{INDENT}{class} {number} ({layer}): {reason}")
 }
@@ -31,50 +31,18 @@ pub fn tell_answer(
     m: &Message<Place>,
     answer: Answer<Place>,
 ) -> Result<(), AllocError> {
-    let client = m.client;
-    let star = m.star;
+    let Message { client, star, .. } = *m;
     match answer {
-        Answer::Reading(value) => {
-            writeln!(
-                out,
-                "{INDENT}answered: client {client} reads star {star}: {}",
-                ValueText(value)
-            )
-        }
-        Answer::Correction { outcome, index } => {
-            let outcome = OutcomeText(outcome, index);
-            writeln!(
-                out,
-                "{INDENT}answered: client {client}'s correction of star {star} is {outcome}"
-            )
-        }
-    }
-}
-
-// The message that the step put at the end of the table.
-fn tell_sent<R: VoteRule>(
-    out: &mut String,
-    s: &Service<R>,
-    memory: &Memory,
-) -> Result<(), AllocError> {
-    let count = s.table.count;
-    let last = (count as u32).saturating_sub(1);
-    match memory.message(count, last) {
-        Some(m) => writeln!(out, "{INDENT}done: sent {}", MessageText(m)),
-        None => writeln!(out, "{INDENT}done"),
-    }
-}
-
-fn tell_appended<R: VoteRule>(out: &mut String, s: &Service<R>) -> Result<(), AllocError> {
-    match s.logs.leader {
-        Some(leader) if leader < 7 => {
-            let length = s.logs.lengths[leader as usize];
-            writeln!(
-                out,
-                "{INDENT}done: copy {leader} appends entry {length} to its log"
-            )
-        }
-        _ => writeln!(out, "{INDENT}done"),
+        Answer::Reading(value) => writeln!(
+            out,
+            "{INDENT}answered: client {client} reads star {star}: {}",
+            ValueText(value)
+        ),
+        Answer::Correction { outcome, index } => writeln!(
+            out,
+            "{INDENT}answered: client {client}'s correction of star {star} is {}",
+            OutcomeText(outcome, index)
+        ),
     }
 }
 
@@ -86,39 +54,6 @@ fn tell_row(out: &mut String, relay: &Relay, star: u16) -> Result<(), AllocError
     let zone = star / 4096;
     let row = RowText(opened.rows[zone as usize]);
     writeln!(out, "{INDENT}zone {zone}: {row}")
-}
-
-// What else a delivered message changed: the zone's row, or the copy's known count.
-fn tell_change<R: VoteRule>(
-    out: &mut String,
-    s: &Service<R>,
-    m: &Message<Place>,
-) -> Result<(), AllocError> {
-    match m.body {
-        Body::CorrectionRequest => tell_row(out, &s.relay, m.star),
-        Body::CorrectionReply { .. } => tell_row(out, &s.relay, m.star),
-        Body::CopyRead { copy, .. } if copy < 7 => {
-            let known = s.logs.known[copy as usize];
-            writeln!(out, "{INDENT}copy {copy}: known count {known}")
-        }
-        _ => Ok(()),
-    }
-}
-
-// A delivered message took its place from the table; a new one may have come.
-pub fn tell_delivered<R: VoteRule>(
-    out: &mut String,
-    s: &Service<R>,
-    memory: &Memory,
-    before: u16,
-    m: &Message<Place>,
-) -> Result<(), AllocError> {
-    if s.table.count == before {
-        tell_sent(out, s, memory)?;
-    } else {
-        tell_appended(out, s)?;
-    }
-    tell_change(out, s, m)
 }
 
 fn tell_unsettled(out: &mut String, rows: &[Row]) -> Result<(), AllocError> {
@@ -138,10 +73,10 @@ fn tell_opened(
     session: u32,
     snapshot: &Option<Snapshot>,
 ) -> Result<(), AllocError> {
-    let session = SessionText(session);
     write!(
         out,
-        "{INDENT}done: session {session} is opened, unsettled zones:"
+        "{INDENT}done: session {} is opened, unsettled zones:",
+        SessionText(session)
     )?;
     match snapshot {
         Some(s) => tell_unsettled(out, &s.rows),
@@ -149,30 +84,75 @@ fn tell_opened(
     }
 }
 
-// A step that is done, by what it was and the number that it handed back.
-pub fn tell_done<R: VoteRule>(
-    out: &mut String,
-    s: &Service<R>,
-    memory: &Memory,
-    call: &Call<Place>,
-    n: u32,
-) -> Result<(), AllocError> {
-    match call {
-        Call::Elect { copy, .. } => writeln!(out, "{INDENT}done: copy {copy} leads term {n}"),
-        Call::Open => tell_opened(out, n, &s.snapshot),
-        Call::Install => {
-            let session = SessionText(n);
-            writeln!(
-                out,
-                "{INDENT}done: the relay is open in session {session}; an installed message is sent"
-            )
+impl<R: VoteRule> Story<'_, R> {
+    // The message that the step put at the end of the table.
+    fn tell_sent(&mut self) -> Result<(), AllocError> {
+        let last = u32::from(self.service.table.count).saturating_sub(1);
+        match self.message(last) {
+            Some(m) => writeln!(self.out, "{INDENT}done: sent {}", MessageText(m)),
+            None => writeln!(self.out, "{INDENT}done"),
         }
-        Call::Restart => writeln!(out, "{INDENT}done: the relay is closed"),
-        Call::Abandon { client } => writeln!(out, "{INDENT}done: client {client} is idle"),
-        Call::Lose { .. } => writeln!(out, "{INDENT}done: the message is lost"),
-        Call::Double { .. } => writeln!(out, "{INDENT}done: {n} messages under way"),
-        Call::Copy { copy } => writeln!(out, "{INDENT}done: copy {copy} has {}", EntriesText(n)),
-        Call::Commit { .. } => writeln!(out, "{INDENT}done: the leader's known count is {n}"),
-        _ => tell_sent(out, s, memory),
+    }
+
+    fn tell_appended(&mut self) -> Result<(), AllocError> {
+        match self.service.logs.leader {
+            Some(leader) if leader < 7 => {
+                let length = self.service.logs.counts[leader as usize].length;
+                writeln!(
+                    self.out,
+                    "{INDENT}done: copy {leader} appends entry {length} to its log"
+                )
+            }
+            _ => writeln!(self.out, "{INDENT}done"),
+        }
+    }
+
+    // What else a delivered message changed: the zone's row, or the copy's known count.
+    fn tell_change(&mut self, m: &Message<Place>) -> Result<(), AllocError> {
+        match m.body {
+            Body::CorrectionRequest | Body::CorrectionReply { .. } => {
+                tell_row(self.out, &self.service.relay, m.star)
+            }
+            Body::CopyRead { copy, .. } if copy < 7 => {
+                let known = self.service.logs.counts[copy as usize].known;
+                writeln!(self.out, "{INDENT}copy {copy}: known count {known}")
+            }
+            _ => Ok(()),
+        }
+    }
+
+    // A delivered message took its place from the table; a new one may have come.
+    pub fn tell_delivered(&mut self, before: u16, m: &Message<Place>) -> Result<(), AllocError> {
+        if self.service.table.count == before {
+            self.tell_sent()?;
+        } else {
+            self.tell_appended()?;
+        }
+        self.tell_change(m)
+    }
+
+    // A step that is done, by what it was and the number that it handed back.
+    pub fn tell_done(&mut self, call: &Call<Place>, n: u32) -> Result<(), AllocError> {
+        let out = &mut *self.out;
+        match call {
+            Call::Elect { copy, .. } => writeln!(out, "{INDENT}done: copy {copy} leads term {n}"),
+            Call::Open => tell_opened(out, n, &self.service.snapshot),
+            Call::Install => writeln!(
+                out,
+                "{INDENT}done: the relay is open in session {}; an installed message is sent",
+                SessionText(n)
+            ),
+            Call::Restart => writeln!(out, "{INDENT}done: the relay is closed"),
+            Call::Abandon { client } => writeln!(out, "{INDENT}done: client {client} is idle"),
+            Call::Lose { .. } => writeln!(out, "{INDENT}done: the message is lost"),
+            Call::Double { .. } => writeln!(out, "{INDENT}done: {n} messages under way"),
+            Call::Copy { copy } => writeln!(
+                out,
+                "{INDENT}done: copy {copy} has {}",
+                EntriesText(n)
+            ),
+            Call::Commit { .. } => writeln!(out, "{INDENT}done: the leader's known count is {n}"),
+            _ => self.tell_sent(),
+        }
     }
 }

@@ -6,25 +6,12 @@ use relay::RelayFault;
 use service::Call;
 use state::ServiceFault;
 
-// The name of a layer.
-pub fn layer_name(layer: u8) -> &'static str {
-    match layer {
-        2 => "log",
-        3 => "leader",
-        4 => "relay",
-        5 => "client",
-        _ => "service",
-    }
-}
-
 // What the step asked for that is not there.
 fn no_such(call: &Call<Place>) -> &'static str {
     match call {
         Call::Elect { .. } => "there is no such copy, or a voter is no copy",
-        Call::Read { .. } => "there is no such client or no such star",
-        Call::Correct { .. } => "there is no such client or no such star",
-        Call::Again { .. } => "there is no such client",
-        Call::Abandon { .. } => "there is no such client",
+        Call::Read { .. } | Call::Correct { .. } => "there is no such client or no such star",
+        Call::Again { .. } | Call::Abandon { .. } => "there is no such client",
         Call::Copy { .. } => "there is no such copy",
         _ => "there is no message at this place",
     }

@@ -1,7 +1,6 @@
 use crate::calls::CallText;
 use crate::inputs::{Expected, SafeText, SizesText};
-use crate::outcomes::{tell_answer, tell_delivered, tell_done, tell_fault};
-use crate::tables::tell_tables;
+use crate::outcomes::{INDENT, tell_answer, tell_fault};
 use delivery::Effect;
 use kinds::Place;
 use phrases::BriefText;
@@ -13,6 +12,14 @@ use std::alloc::{AllocError, Global};
 use std::fmt::Write;
 use votes::{EveryCopy, Majority, VoteRule};
 
+// A service that is told of: the text that tells it, and the memory that its steps are lent.
+#[derive(Drop)]
+pub struct Story<'a, R> {
+    pub out: &'a mut String,
+    pub service: Service<R>,
+    pub memory: Memory,
+}
+
 // A line that cannot be read, at most 60 bytes of it.
 fn tell_unreadable(
     out: &mut String,
@@ -20,31 +27,13 @@ fn tell_unreadable(
     text: &[u8],
     name: Option<Name>,
 ) -> Result<(), AllocError> {
-    let expected = Expected(name);
-    if text.len() > 60 {
-        let start = SafeText(&text[0..60]);
-        return writeln!(out, "line {line}: cannot read \"{start}..\": {expected}");
-    }
+    let start = SafeText(&text[..text.len().min(60)]);
+    let rest = if text.len() > 60 { ".." } else { "" };
     writeln!(
         out,
-        "line {line}: cannot read \"{}\": {expected}",
-        SafeText(text)
+        "line {line}: cannot read \"{start}{rest}\": {}",
+        Expected(name)
     )
-}
-
-// The message that the step takes, loses or doubles.
-fn handled<R: VoteRule>(
-    s: &Service<R>,
-    memory: &Memory,
-    call: &Call<Place>,
-) -> Option<Message<Place>> {
-    let count = s.table.count;
-    match call {
-        Call::Deliver { place } => memory.message(count, *place),
-        Call::Lose { place } => memory.message(count, *place),
-        Call::Double { place } => memory.message(count, *place),
-        _ => None,
-    }
 }
 
 fn tell_asked(
@@ -56,54 +45,7 @@ fn tell_asked(
     write!(out, "line {line}: {}", CallText(*call))?;
     match m {
         Some(m) => writeln!(out, " ({})", BriefText(*m)),
-        None => writeln!(out, ""),
-    }
-}
-
-// Carries the step out, and tells what was asked and what came of it.
-fn tell_step<R: VoteRule>(
-    out: &mut String,
-    s: &mut Service<R>,
-    memory: &mut Memory,
-    line: u64,
-    call: Call<Place>,
-) -> Result<(), AllocError> {
-    let m = handled(s, memory, &call);
-    tell_asked(out, line, &call, &m)?;
-    let before = s.table.count;
-    let came = perform(
-        s,
-        memory.entries.as_mut_slice(),
-        memory.messages.as_mut_slice(),
-        memory.kept.as_mut_slice(),
-        call,
-    );
-    match (came, m, call) {
-        (Err(fault), _, _) => tell_fault(out, "refused", fault, &call),
-        (Ok(Effect::Dropped(fault)), _, _) => tell_fault(out, "dropped", fault, &call),
-        (Ok(Effect::Answered(answer)), Some(m), _) => tell_answer(out, &m, answer),
-        (Ok(_), Some(m), Call::Deliver { .. }) => tell_delivered(out, s, memory, before, &m),
-        (Ok(Effect::Done(n)), _, _) => tell_done(out, s, memory, &call, n),
-        _ => Ok(()),
-    }
-}
-
-fn tell_line<R: VoteRule>(
-    out: &mut String,
-    s: &mut Service<R>,
-    memory: &mut Memory,
-    number: u64,
-    line: Line,
-) -> Result<(), AllocError> {
-    match line {
-        Line::Blank => Ok(()),
-        Line::Narration(text) => writeln!(out, "{}", SafeText(text)),
-        Line::Unreadable(text, name) => tell_unreadable(out, number, text, name),
-        Line::Step(call) => tell_step(out, s, memory, number, call),
-        Line::Choice(sizes) => {
-            writeln!(out, "line {number}: {}", SizesText(sizes))?;
-            writeln!(out, "         not taken: the service is made already")
-        }
+        None => writeln!(out),
     }
 }
 
@@ -113,7 +55,7 @@ fn tell_break(out: &mut String, narrated: bool, line: &Line) -> Result<bool, All
         Line::Blank => Ok(narrated),
         Line::Narration(_) => {
             if !narrated {
-                writeln!(out, "")?;
+                writeln!(out)?;
             }
             Ok(true)
         }
@@ -121,19 +63,66 @@ fn tell_break(out: &mut String, narrated: bool, line: &Line) -> Result<bool, All
     }
 }
 
-fn tell_lines<R: VoteRule>(
-    out: &mut String,
-    s: &mut Service<R>,
-    memory: &mut Memory,
-    mut lines: Lines,
-) -> Result<(), AllocError> {
-    let mut narrated = false;
-    while let Some(bytes) = lines.next() {
-        let line = read_line(bytes);
-        narrated = tell_break(out, narrated, &line)?;
-        tell_line(out, s, memory, lines.number, line)?;
+impl<R: VoteRule> Story<'_, R> {
+    // The message at a place of the table, if one stands there.
+    pub fn message(&self, place: u32) -> Option<Message<Place>> {
+        self.memory.message(self.service.table.count, place)
     }
-    Ok(())
+
+    // The message that the step takes, loses or doubles.
+    fn handled(&self, call: &Call<Place>) -> Option<Message<Place>> {
+        match call {
+            Call::Deliver { place } | Call::Lose { place } | Call::Double { place } => {
+                self.message(*place)
+            }
+            _ => None,
+        }
+    }
+
+    // Carries the step out, and tells what was asked and what came of it.
+    fn tell_step(&mut self, line: u64, call: Call<Place>) -> Result<(), AllocError> {
+        let m = self.handled(&call);
+        tell_asked(self.out, line, &call, &m)?;
+        let before = self.service.table.count;
+        let came = perform(
+            &mut self.service,
+            self.memory.entries.as_mut_slice(),
+            self.memory.messages.as_mut_slice(),
+            self.memory.kept.as_mut_slice(),
+            call,
+        );
+        match (came, m, call) {
+            (Err(fault), _, _) => tell_fault(self.out, "refused", fault, &call),
+            (Ok(Effect::Dropped(fault)), _, _) => tell_fault(self.out, "dropped", fault, &call),
+            (Ok(Effect::Answered(answer)), Some(m), _) => tell_answer(self.out, &m, answer),
+            (Ok(_), Some(m), Call::Deliver { .. }) => self.tell_delivered(before, &m),
+            (Ok(Effect::Done(n)), _, _) => self.tell_done(&call, n),
+            _ => Ok(()),
+        }
+    }
+
+    fn tell_line(&mut self, number: u64, line: Line) -> Result<(), AllocError> {
+        match line {
+            Line::Blank => Ok(()),
+            Line::Narration(text) => writeln!(self.out, "{}", SafeText(text)),
+            Line::Unreadable(text, name) => tell_unreadable(self.out, number, text, name),
+            Line::Step(call) => self.tell_step(number, call),
+            Line::Choice(sizes) => {
+                writeln!(self.out, "line {number}: {}", SizesText(sizes))?;
+                writeln!(self.out, "{INDENT}not taken: the service is made already")
+            }
+        }
+    }
+
+    fn tell_lines(&mut self, lines: Lines) -> Result<(), AllocError> {
+        let mut narrated = false;
+        for (number, bytes) in lines {
+            let line = read_line(bytes);
+            narrated = tell_break(self.out, narrated, &line)?;
+            self.tell_line(number, line)?;
+        }
+        Ok(())
+    }
 }
 
 // Tells what stands before the first step. The sizes are those that a line chooses, else the standard
@@ -143,8 +132,7 @@ fn tell_prelude<'a>(
     mut lines: Lines<'a>,
 ) -> Result<(Sizes, Lines<'a>), AllocError> {
     let mut before = lines;
-    while let Some(bytes) = lines.next() {
-        let number = lines.number;
+    while let Some((number, bytes)) = lines.next() {
         match read_line(bytes) {
             Line::Blank => {}
             Line::Narration(text) => writeln!(out, "{}", SafeText(text))?,
@@ -168,24 +156,26 @@ fn tell_service<R: VoteRule>(
     sizes: Sizes,
     lines: Lines,
 ) -> anyhow::Result<bool> {
-    let mut memory = Memory::new(heap, &sizes)?;
-    let entries = memory.entries.as_slice();
-    let messages = memory.messages.as_slice();
-    let kept = memory.kept.as_slice();
+    let memory = Memory::new(heap, &sizes)?;
     let made = state::new_service(
         rule,
         sizes.log,
         sizes.messages,
         sizes.clients,
-        entries,
-        messages,
-        kept,
+        memory.entries.as_slice(),
+        memory.messages.as_slice(),
+        memory.kept.as_slice(),
     );
     writeln!(out, "{}", SizesText(sizes))?;
     match made {
-        Ok(mut s) => {
-            tell_lines(out, &mut s, &mut memory, lines)?;
-            tell_tables(out, &s, &memory)?;
+        Ok(service) => {
+            let mut story = Story {
+                out,
+                service,
+                memory,
+            };
+            story.tell_lines(lines)?;
+            story.tell_tables()?;
             Ok(true)
         }
         Err(fault) => {
@@ -204,7 +194,7 @@ pub fn tell(out: &mut String, heap: Global, text: &[u8]) -> anyhow::Result<()> {
     };
     if !told {
         let standard = Sizes::standard();
-        let _ = tell_service(out, heap, Majority::new(standard.copies), standard, lines)?;
+        tell_service(out, heap, Majority::new(standard.copies), standard, lines)?;
     }
     Ok(())
 }

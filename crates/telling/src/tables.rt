@@ -1,17 +1,16 @@
-use copies::Logs;
+use crate::story::Story;
+use copies::{Counts, Logs};
 use entries::Entry;
 use kinds::Place;
+use leader::Lead;
 use phrases::{ClientText, EntriesText, EntryText, MessageText, RowText, SessionText};
 use relay::{Relay, Row, Snapshot};
-use scenario::Memory;
-use state::Service;
 use std::alloc::AllocError;
 use std::fmt::Write;
 use votes::VoteRule;
 
 fn tell_log(out: &mut String, log: &[Entry<Place>]) -> Result<(), AllocError> {
-    for (i, e) in log.iter().enumerate() {
-        let index = i.wrapping_add(1);
+    for (index, e) in (1u32..).zip(log) {
         writeln!(out, "    {index}  {}", EntryText(*e))?;
     }
     Ok(())
@@ -21,28 +20,14 @@ fn tell_logs(out: &mut String, logs: &Logs, entries: &[Entry<Place>]) -> Result<
     if !logs.fits(entries.len()) {
         return Ok(());
     }
+    let copies = logs.over(entries);
     for copy in 0..logs.copies {
-        let length = EntriesText(logs.lengths[copy as usize] as u32);
-        let known = logs.known[copy as usize];
+        let Counts { length, known } = logs.counts[copy as usize];
+        let length = EntriesText(u32::from(length));
         writeln!(out, "  copy {copy}: {length}, known count {known}")?;
-        tell_log(out, logs.log(entries, copy))?;
+        tell_log(out, copies.log(copy))?;
     }
     Ok(())
-}
-
-fn tell_leader<R: VoteRule>(out: &mut String, s: &Service<R>) -> Result<(), AllocError> {
-    let term = s.logs.term;
-    let part = s.lead.part;
-    let last = s.lead.last;
-    match s.logs.leader {
-        Some(leader) => {
-            writeln!(
-                out,
-                "Logs (term {term}, leader copy {leader}, part {part}, last number {last})"
-            )
-        }
-        None => writeln!(out, "Logs (no leader)"),
-    }
 }
 
 // Whether the row is as the snapshot had it for every zone without an entry.
@@ -86,50 +71,55 @@ fn tell_relay(out: &mut String, relay: &Relay) -> Result<(), AllocError> {
 
 fn tell_snapshot(out: &mut String, snapshot: &Option<Snapshot>) -> Result<(), AllocError> {
     match snapshot {
-        Some(s) => {
-            let leader = s.leader;
-            writeln!(
-                out,
-                "Snapshot: session {}, leader copy {leader}",
-                SessionText(s.session)
-            )
-        }
+        Some(s) => writeln!(
+            out,
+            "Snapshot: session {}, leader copy {}",
+            SessionText(s.session),
+            s.leader
+        ),
         None => writeln!(out, "Snapshot: none"),
     }
 }
 
-fn tell_messages<R: VoteRule>(
-    out: &mut String,
-    s: &Service<R>,
-    memory: &Memory,
-) -> Result<(), AllocError> {
-    let count = s.table.count;
-    writeln!(out, "Messages under way: {count}")?;
-    for (place, m) in memory.messages.iter().take(count as usize).enumerate() {
-        writeln!(out, "  {place}  {}", MessageText(*m))?;
+impl<R: VoteRule> Story<'_, R> {
+    fn tell_leader(&mut self) -> Result<(), AllocError> {
+        let term = self.service.logs.term;
+        let Lead { part, last } = self.service.lead;
+        match self.service.logs.leader {
+            Some(leader) => writeln!(
+                self.out,
+                "Logs (term {term}, leader copy {leader}, part {part}, last number {last})"
+            ),
+            None => writeln!(self.out, "Logs (no leader)"),
+        }
     }
-    Ok(())
-}
 
-fn tell_clients<R: VoteRule>(out: &mut String, s: &Service<R>) -> Result<(), AllocError> {
-    writeln!(out, "Clients")?;
-    for (client, c) in s.clients.iter().take(s.seats as usize).enumerate() {
-        writeln!(out, "  client {client}: {}", ClientText(*c))?;
+    fn tell_messages(&mut self) -> Result<(), AllocError> {
+        let count = self.service.table.count;
+        writeln!(self.out, "Messages under way: {count}")?;
+        for (place, m) in self.memory.messages.iter().take(count as usize).enumerate() {
+            writeln!(self.out, "  {place}  {}", MessageText(*m))?;
+        }
+        Ok(())
     }
-    Ok(())
-}
 
-// What there is at the end: the logs, the snapshot, the relay, the messages under way, the clients.
-pub fn tell_tables<R: VoteRule>(
-    out: &mut String,
-    s: &Service<R>,
-    memory: &Memory,
-) -> Result<(), AllocError> {
-    writeln!(out, "")?;
-    tell_leader(out, s)?;
-    tell_logs(out, &s.logs, memory.entries.as_slice())?;
-    tell_snapshot(out, &s.snapshot)?;
-    tell_relay(out, &s.relay)?;
-    tell_messages(out, s, memory)?;
-    tell_clients(out, s)
+    fn tell_clients(&mut self) -> Result<(), AllocError> {
+        writeln!(self.out, "Clients")?;
+        let seats = self.service.seats as usize;
+        for (client, c) in self.service.clients.iter().take(seats).enumerate() {
+            writeln!(self.out, "  client {client}: {}", ClientText(*c))?;
+        }
+        Ok(())
+    }
+
+    // What there is at the end: the logs, the snapshot, the relay, the messages under way, the clients.
+    pub fn tell_tables(&mut self) -> Result<(), AllocError> {
+        writeln!(self.out)?;
+        self.tell_leader()?;
+        tell_logs(self.out, &self.service.logs, self.memory.entries.as_slice())?;
+        tell_snapshot(self.out, &self.service.snapshot)?;
+        tell_relay(self.out, &self.service.relay)?;
+        self.tell_messages()?;
+        self.tell_clients()
+    }
 }

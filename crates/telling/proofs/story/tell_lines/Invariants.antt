@@ -1,5 +1,0 @@
-use Rattle.std.proofs.Common.{length}
-use Rattle.telling.proofs.story.tell_lines.Given as goal
-
-abbrev pub decreases-loop-bytes : goal.decreases-loop-bytes
-decreases-loop-bytes g l = length l.lines.rest.now
