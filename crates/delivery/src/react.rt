@@ -66,7 +66,7 @@ pub fn leader_read<V: RecordKind, R: VoteRule>(
     requires shape { Shaped s.now.logs (length entries.now) }
     ensures { result ≡ at_leader_read s.now entries.now m.now }
 {
-    Ok(Reaction::Sends(leader::leader_read(&s.logs, &s.lead, entries, m)?))
+    Ok(Reaction::Sends(leader::leader_read(&s.logs.over(entries), &s.lead, m)?))
 }
 
 // A correction at the leader.

@@ -15,7 +15,7 @@ pub fn open<V: RecordKind, R: VoteRule>(
     ensures { (s.new, result) ≡ open_step V.RecordKind.alike s.old entries.now }
 {
     s.check_entries(entries)?;
-    let snapshot = leader::open_session(&s.logs, &mut s.lead, entries)?;
+    let snapshot = leader::open_session(&s.logs.over(entries), &mut s.lead)?;
     s.snapshot = Some(snapshot);
     Ok(snapshot.session)
 }
@@ -30,7 +30,7 @@ fn fresh_reply<V: RecordKind, R: VoteRule>(
     ensures { result ≡ fresh_reply V.RecordKind.blank_value V.RecordKind.alike s.now entries.now i }
 {
     s.check_entries(entries)?;
-    Ok(leader::reply(&s.logs, &s.lead, entries, i)?)
+    Ok(leader::reply(&s.logs.over(entries), &s.lead, i)?)
 }
 
 // Puts a fresh reply for the leader's entry i, which is the answer.
