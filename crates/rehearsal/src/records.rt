@@ -45,10 +45,7 @@ pub fn rehearse<V: RecordKind, R: VoteRule>(
 ) -> Result<Vec<u8>, AllocError> {
     let mut out = Vec::new(heap);
     for record in input.chunks(24) {
-        let answered = answer(s, entries, messages, kept, record);
-        for b in answered {
-            out.push(b)?;
-        }
+        out.extend_from_slice(&answer(s, entries, messages, kept, record))?;
     }
     Ok(out)
 }
