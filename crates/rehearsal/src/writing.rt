@@ -16,29 +16,11 @@ const ANSWERED: u8 = 3;
 fn record_of(code: u8, class: u8, number: u8, layer: u8, res: u32, value: [u8; 16]) -> [u8; 24]
     ensures { result ≡ record_of code class number layer res value }
 {
-    let [n0, n1, n2, n3] = res.to_le_bytes();
-    let [
-        v0,
-        v1,
-        v2,
-        v3,
-        v4,
-        v5,
-        v6,
-        v7,
-        v8,
-        v9,
-        va,
-        vb,
-        vc,
-        vd,
-        ve,
-        vf,
-    ] = value;
-    [
-        code, class, number, layer, n0, n1, n2, n3, v0, v1, v2, v3, v4, v5, v6, v7, v8, v9, va, vb,
-        vc, vd, ve, vf,
-    ]
+    let mut record = [0; 24];
+    record[..4].copy_from_slice(&[code, class, number, layer]);
+    record[4..8].copy_from_slice(&res.to_le_bytes());
+    record[8..].copy_from_slice(&value);
+    record
 }
 
 // The record of a refusal or a drop.
