@@ -4,10 +4,9 @@ ghost use Rattle.rehearsal.specs.Encode.{record_of, fault_record, bytes_of, answ
 use client::Answer;
 use delivery::Effect;
 use kinds::RecordKind;
-use relay::Outcome;
 use state::ServiceFault;
 
-// The classes of what came of a step without a fault, beside `state::Class`, which has those of faults.
+// The classes of a record without a fault, as numbers: an enum of all four would list `Class` again, which has 1 and 2.
 const DONE: u8 = 0;
 
 const ANSWERED: u8 = 3;
@@ -60,7 +59,7 @@ fn answer_record<V: RecordKind>(code: u8, answer: Answer<V>) -> [u8; 24]
             )
         }
         Answer::Correction { outcome: _, index } => {
-            record_of(code, ANSWERED, 0, 0, index as u32, [0; 16])
+            record_of(code, ANSWERED, 0, 0, u32::from(index), [0; 16])
         }
     }
 }

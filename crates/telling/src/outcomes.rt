@@ -1,4 +1,4 @@
-use crate::sentences::{layer_name, sentence};
+use crate::sentences::sentence;
 use client::Answer;
 use kinds::Place;
 use phrases::{EntriesText, MessageText, OutcomeText, RowText, SessionText, ValueText};
@@ -20,7 +20,7 @@ pub fn tell_fault(
     call: &Call<Place>,
 ) -> Result<(), AllocError> {
     let number = fault.number();
-    let layer = layer_name(fault.layer());
+    let layer = fault.layer();
     let reason = sentence(fault, call);
     writeln!(out, "{INDENT}{class} {number} ({layer}): {reason}")
 }

@@ -6,17 +6,6 @@ use relay::RelayFault;
 use service::Call;
 use state::ServiceFault;
 
-// The name of a layer.
-pub fn layer_name(layer: u8) -> &'static str {
-    match layer {
-        2 => "log",
-        3 => "leader",
-        4 => "relay",
-        5 => "client",
-        _ => "service",
-    }
-}
-
 // What the step asked for that is not there.
 fn no_such(call: &Call<Place>) -> &'static str {
     match call {
