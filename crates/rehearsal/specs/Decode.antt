@@ -1,12 +1,12 @@
 -- The step that a record of 24 bytes asks for.
-use Rattle.std.specs.Prelude.{ℕ, Bool, true, cond, not, ◌&&◌, List, [], ◌∷◌, length, Some, None, Option, ◌==◌, nat_lt, slice_index}
+use Rattle.std.specs.Prelude.{ℕ, Bool, cond, not, ◌&&◌, List, [], ◌∷◌, length, Some, None, Option, ◌==◌, slice_index}
+use Rattle.std.specs.List.{list_all}
 use Rattle.kinds.specs.Bytes.{at32}
 use Rattle.service.specs.declared.call.Call.{Call}
 use Rattle.service.specs.declared.call.Call.TheVariants.{Elect, Open, Install, Restart, Read, Correct, Again, Abandon, Deliver, Lose, Double, Copy, Commit, Reply}
 
-unfoldable pub all_zero : List ℕ → Bool
-all_zero [] = true
-all_zero (x ∷ xs) = x == 0 && all_zero xs
+abbrev pub all_zero : List ℕ → Bool
+all_zero = list_all (λ x. x == 0)
 
 -- the value's bytes, from the ninth on
 unfoldable pub value_bytes : List ℕ → List ℕ
@@ -27,32 +27,23 @@ module _ {V : Type 0} where
   abbrev pub correct_of : (List ℕ → Option V) → ℕ → ℕ → ℕ → List ℕ → Option (Call V)
   correct_of parsed a b n value = correct_with a b n (parsed value)
 
-  -- codes 1 to 5, 7 and 8
-  unfoldable pub low_code : ℕ → ℕ → ℕ → ℕ → Bool → Option (Call V)
-  low_code code a b n blank =
+  -- the codes in their order; blank says whether the value is all zeros
+  unfoldable pub by_code : (List ℕ → Option V) → ℕ → ℕ → ℕ → ℕ → Bool → List ℕ → Option (Call V)
+  by_code parsed code a b n blank value =
       cond (code == 1) (when (n == 0 && blank) (Elect a b))
       (cond (code == 2) (when (a == 0 && (b == 0 && blank) && n == 0) Open)
       (cond (code == 3) (when (a == 0 && (b == 0 && blank) && n == 0) Install)
       (cond (code == 4) (when (a == 0 && (b == 0 && blank) && n == 0) Restart)
       (cond (code == 5) (when (b == 0 && blank) (Read a n))
+      (cond (code == 6) (correct_of parsed a b n value)
       (cond (code == 7) (when ((b == 0 && blank) && n == 0) (Again a))
-      (cond (code == 8) (when ((b == 0 && blank) && n == 0) (Abandon a)) None))))))
-
-  -- codes 9 to 14
-  unfoldable pub high_code : ℕ → ℕ → ℕ → ℕ → Bool → Option (Call V)
-  high_code code a b n blank =
-      cond (code == 9) (when (a == 0 && (b == 0 && blank)) (Deliver n))
+      (cond (code == 8) (when ((b == 0 && blank) && n == 0) (Abandon a))
+      (cond (code == 9) (when (a == 0 && (b == 0 && blank)) (Deliver n))
       (cond (code == 10) (when (a == 0 && (b == 0 && blank)) (Lose n))
       (cond (code == 11) (when (a == 0 && (b == 0 && blank)) (Double n))
       (cond (code == 12) (when ((b == 0 && blank) && n == 0) (Copy a))
       (cond (code == 13) (when (a == 0 && (b == 0 && blank)) (Commit n))
-      (cond (code == 14) (when (a == 0 && (b == 0 && blank)) (Reply n)) None)))))
-
-  -- code 6 is a correction; blank says whether the value is all zeros
-  unfoldable pub by_code : (List ℕ → Option V) → ℕ → ℕ → ℕ → ℕ → Bool → List ℕ → Option (Call V)
-  by_code parsed code a b n blank value =
-      cond (code == 6) (correct_of parsed a b n value)
-      (cond (nat_lt code 9) (low_code code a b n blank) (high_code code a b n blank))
+      (cond (code == 14) (when (a == 0 && (b == 0 && blank)) (Reply n)) None)))))))))))))
 
   -- a record of another length, or whose fourth byte is not zero, is malformed
   abbrev pub decoded : (List ℕ → Option V) → List ℕ → Option (Call V)

@@ -45,10 +45,7 @@ pub fn rehearse<V: RecordKind, R: VoteRule>(
 ) -> Result<Vec<u8>, AllocError> {
     let mut out = Vec::new(heap);
     for record in input.chunks(24) {
-        let answered = answer(s, entries, messages, kept, record);
-        for b in answered {
-            out.push(b)?;
-        }
+        out.extend_from_slice(&answer(s, entries, messages, kept, record))?;
     }
     Ok(out)
 }
@@ -59,24 +56,9 @@ pub fn rehearse_input<V: RecordKind>(heap: Global, input: &[u8]) -> Result<Vec<u
     let mut entries = state::filled(heap, state::blank_entry::<V>(), 192)?;
     let mut messages = state::filled(heap, state::blank_message::<V>(), 32)?;
     let mut kept = state::filled(heap, V::blank(), 4)?;
-    let made = state::new_service(
-        Majority::new(3),
-        64,
-        32,
-        4,
-        entries.as_slice(),
-        messages.as_slice(),
-        kept.as_slice(),
-    );
+    let made = state::new_service(Majority::new(3), 64, 32, 4, &entries, &messages, &kept);
     let Ok(mut s) = made else {
         return Ok(Vec::new(heap));
     };
-    rehearse(
-        heap,
-        &mut s,
-        entries.as_mut_slice(),
-        messages.as_mut_slice(),
-        kept.as_mut_slice(),
-        input,
-    )
+    rehearse(heap, &mut s, &mut entries, &mut messages, &mut kept, input)
 }
