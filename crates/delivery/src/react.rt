@@ -135,9 +135,7 @@ pub fn correction_reply<V: RecordKind, R: VoteRule>(
 ) -> Result<Reaction<V>, ServiceFault>
     ensures { (s.new, result) ≡ at_correction_reply s.old m.now sequence outcome settlement }
 {
-    let sent = s
-        .relay
-        .correction_reply(m, sequence, outcome, settlement)?;
+    let sent = s.relay.correction_reply(m, sequence, outcome, settlement)?;
     Ok(Reaction::Sends(sent))
 }
 
