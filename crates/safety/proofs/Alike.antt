@@ -26,8 +26,8 @@ module _ {V : Type 0} where
 
     pub all_one : (l m : List (Entry V)) → all_alike alike l m ≡ true → l ≡ m
     all_one [] [] e = refl
-    all_one [] (y ∷ m) e = absurd (let z : ◌≡◌ {A = ℕ} 0 1 = cc in omega arith)
-    all_one (x ∷ l) [] e = absurd (let z : ◌≡◌ {A = ℕ} 0 1 = cc in omega arith)
+    all_one [] (y ∷ m) e = cc
+    all_one (x ∷ l) [] e = cc
     all_one (x ∷ l) (y ∷ m) e =
         let w = and_parts (entry_alike alike x y) (all_alike alike l m) e in
         ap₂ (λ (z : Entry V) (r : List (Entry V)). z ∷ r) (entries_one x y w.0) (all_one l m w.1)

@@ -18,7 +18,7 @@ use Rattle.safety.proofs.Alike.{all_one}
 
 pub is_T : (b : Bool) → b ≡ true → T b
 is_T true e = tt
-is_T false e = absurd (let z : ◌≡◌ {A = ℕ} 0 1 = cc in omega arith)
+is_T false e = cc
 
 pub is_true : (b : Bool) → T b → b ≡ true
 is_true true h = refl
@@ -34,7 +34,7 @@ module _ {A : Type 0} (f : ℕ → A) (r : ℕ) (x : A) where
 -- ---- on the way to an outcome
 
 no_fault : {X : Type 0} (f : LogFault) (x : X) → ◌≡◌ {A = Result X LogFault} (Err f) (Ok x) → ⊥
-no_fault f x e = let z : ◌≡◌ {A = ℕ} 0 1 = cc in omega arith
+no_fault f x e = cc
 
 module _ {V X : Type 0} where
   -- a check that was passed on the way to a done outcome
@@ -180,9 +180,9 @@ module _ {V : Type 0} {s t : View V} where
       }
     where
       calm : (x y : Bool) → x ≡ true → not (x && y) ≡ true → y ≡ false
-      calm true true h k = absurd (let z : ◌≡◌ {A = ℕ} 0 1 = cc in omega arith)
+      calm true true h k = cc
       calm true false h k = refl
-      calm false y h k = absurd (let z : ◌≡◌ {A = ℕ} 0 1 = cc in omega arith)
+      calm false y h k = cc
 
   pub elect_refused : (elects : ℕ → Bool) (c v : ℕ) {f : LogFault} → elect_move elects s c v ≡ (t, Err f) → t ≡ s
   unfolding elect_move

@@ -54,7 +54,7 @@ pub record Inv {V : Type 0} (elects : ℕ → Bool) (s : View V) (C : List (Entr
   pub most : (r : ℕ) × (r < s.copies) × (s.known r ≡ length C)
 
 never : {A : Type 0} (a : ℕ) → ◌≡◌ {A = Option ℕ} None (Some a) → A
-never a e = absurd (let z : ◌≡◌ {A = ℕ} 0 1 = cc in omega arith)
+never a e = cc
 
 some : (a b : ℕ) → ◌≡◌ {A = Option ℕ} (Some a) (Some b) → a ≡ b
 some a b e = cc
