@@ -40,23 +40,21 @@ module _ {V X : Type 0} where
   -- a check that was passed on the way to a done outcome
   passed : (b : Bool) (s t : View V) (f : LogFault) (y : View V × Result X LogFault) (x : X) →
       cond b (s, Err f) y ≡ (t, Ok x) → (b ≡ false) × (y ≡ (t, Ok x))
-  passed true s t f y x e = absurd (no_fault f x (ap (λ (p : View V × Result X LogFault). p.1) e))
+  passed true s t f y x e = grind arith
   passed false s t f y x e = (refl, e)
 
   -- the last outcome of the chain
   ended : (s t : View V) (x y : X) → ◌≡◌ {A = View V × Result X LogFault} (s, Ok y) (t, Ok x) → (t ≡ s) × (x ≡ y)
-  ended s t x y e =
-      let k : ◌≡◌ {A = Result X LogFault} (Ok y) (Ok x) = ap (λ (p : View V × Result X LogFault). p.1) e in
-      (ap (λ (p : View V × Result X LogFault). p.0) (sym e), cc)
+  ended s t x y e = grind arith
 
   -- a refusal at this check or at a later one
   refused : (b : Bool) (s t : View V) (f g : LogFault) (y : View V × Result X LogFault) →
       cond b (s, Err f) y ≡ (t, Err g) → (y ≡ (t, Err g) → t ≡ s) → t ≡ s
-  refused true s t f g y e k = ap (λ (p : View V × Result X LogFault). p.0) (sym e)
+  refused true s t f g y e k = grind arith
   refused false s t f g y e k = k e
 
   not_refused : (s t u : View V) (x : X) (g : LogFault) → ◌≡◌ {A = View V × Result X LogFault} (u, Ok x) (t, Err g) → t ≡ s
-  not_refused s t u x g e = absurd (no_fault g x (sym (ap (λ (p : View V × Result X LogFault). p.1) e)))
+  not_refused s t u x g e = grind arith
 
 -- ---- what a done move did
 
