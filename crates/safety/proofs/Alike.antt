@@ -6,11 +6,6 @@ use Rattle.entries.specs.Compare.{content_alike, entry_alike, all_alike}
 use Rattle.safety.specs.Runs.{Telling}
 
 module _ {V : Type 0} where
-  same_parts : (a b : Entry V) → a.term ≡ b.term → a.stamp.session ≡ b.stamp.session → a.stamp.number ≡ b.stamp.number →
-      a.client ≡ b.client → a.number ≡ b.number → a.star ≡ b.star → a.value ≡ b.value → a ≡ b
-  same_parts a b t s m c n r v =
-      λ i. record { term = t i; stamp = record { session = s i; number = m i }; client = c i; number = n i; star = r i; value = v i }
-
   module _ (alike : V → V → Bool) (tells : Telling alike) where
     pub entries_one : (a b : Entry V) → entry_alike alike a b ≡ true → a ≡ b
     entries_one a b e = let h = (tells a.value b.value).0 in grind (arith, and_parts, eqb-true, h)
@@ -19,6 +14,4 @@ module _ {V : Type 0} where
     all_one [] [] e = refl
     all_one [] (y ∷ m) e = cc
     all_one (x ∷ l) [] e = cc
-    all_one (x ∷ l) (y ∷ m) e =
-        let w = and_parts (entry_alike alike x y) (all_alike alike l m) e in
-        ap₂ (λ (z : Entry V) (r : List (Entry V)). z ∷ r) (entries_one x y w.0) (all_one l m w.1)
+    all_one (x ∷ l) (y ∷ m) e = let k = all_one l m in grind (arith, entries_one x y, k)

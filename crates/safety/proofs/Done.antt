@@ -1,5 +1,6 @@
 -- What each move did: of one that is done every check was passed, and one that is refused leaves the view as it was.
 use Rattle.std.proofs.Common.{◌≡◌, ℕ, ◌+◌, ◌<◌, ◌≤◌, max, Bool, true, false, cond, not, ◌&&◌, ◌||◌, T, eqb, ltb, leb, List, [], ◌∷◌, ◌++◌, length, take, Some, None, Ok, Err, Option, Result, sym, refl, ap, subst, arith}
+use Rattle.std.proofs.lemmas.Float.{T_from_true}
 use Rattle.std.proofs.lemmas.Bool.{cond-true, cond-false, eq-eqb, ne_eqb, and_parts, or_parts, not-false, leb-true, leb-false, ltb-false, eqb-true, eqb-false}
 use Rattle.votes.specs.Sets.{bit, has}
 use Rattle.entries.specs.declared.entry.Entry.{Entry}
@@ -15,10 +16,6 @@ use Rattle.safety.proofs.Masks.{in_mask}
 use Rattle.safety.proofs.Alike.{all_one}
 
 -- ---- tests, and one value put into a function
-
-pub is_T : (b : Bool) → b ≡ true → T b
-is_T true e = tt
-is_T false e = cc
 
 pub is_true : (b : Bool) → T b → b ≡ true
 is_true true h = refl
@@ -164,8 +161,8 @@ module _ {V : Type 0} {s t : View V} where
       let u = passed (eqb s.term 65535) s t _ _ n q.1 in
       let w = ended (leading s c) t n (s.term + 1) u.1 in
       record {
-        enough = is_T (elects v) (not-false (elects v) p.0);
-        newest = λ r h b. calm (has v r) (newer (s.log r) (s.log c)) (eq-eqb (bit v r) 1 b) (all_each (λ r. not (objects_to s c v r)) s.copies (not-false (none_newer s c v) q.0) r h);
+        enough = T_from_true (elects v) (not-false (elects v) p.0);
+        newest = λ r h b. let w = all_each (λ r. not (objects_to s c v r)) s.copies (not-false (none_newer s c v) q.0) r h in grind (arith, eq-eqb (bit v r) 1 b);
         terms = eqb-false s.term 65535 u.0;
         is = w.0;
         answer = w.1;
@@ -176,16 +173,10 @@ module _ {V : Type 0} {s t : View V} where
         next = ap (λ (x : View V). x.term) w.0;
         leads = ap (λ (x : View V). x.leader) w.0;
       }
-    where
-      calm : (x y : Bool) → x ≡ true → not (x && y) ≡ true → y ≡ false
-      calm true true h k = cc
-      calm true false h k = refl
-      calm false y h k = cc
 
   pub elect_refused : (elects : ℕ → Bool) (c v : ℕ) {f : LogFault} → elect_move elects s c v ≡ (t, Err f) → t ≡ s
   unfolding elect_move
-  elect_refused elects c v {f} e =
-      refused (not (elects v)) s t _ f _ e (λ e. refused (not (none_newer s c v)) s t _ f _ e (λ e. refused (eqb s.term 65535) s t _ f _ e (not_refused s t _ _ f)))
+  elect_refused elects c v {f} e = grind arith
 
   pub append_done : (a : ℕ) (x : Entry V) {n : ℕ} → append_move s a x ≡ (t, Ok n) → AppendDone s a x t n
   unfolding append_move
@@ -204,7 +195,7 @@ module _ {V : Type 0} {s t : View V} where
 
   pub append_refused : (a : ℕ) (x : Entry V) {f : LogFault} → append_move s a x ≡ (t, Err f) → t ≡ s
   unfolding append_move
-  append_refused a x {f} e = refused (leb s.capacity (length (s.log a))) s t _ f _ e (not_refused s t _ _ f)
+  append_refused a x {f} e = grind arith
 
   pub copy_done : (r : ℕ) {n : ℕ} → copy_move s r ≡ (t, Ok n) → CopyDone s r t n
   unfolding copy_move
@@ -232,8 +223,8 @@ module _ {V : Type 0} {s t : View V} where
   copy_refused r {f} e = at s.leader e
     where
       at : (o : Option ℕ) → copy_from s r o ≡ (t, Err f) → t ≡ s
-      at None e = ap (λ (p : View V × Result ℕ LogFault). p.0) (sym e)
-      at (Some a) e = refused (leb (length (s.log a)) (gap (s.log a) (s.log r))) s t _ f _ e (not_refused s t _ _ f)
+      at None e = grind arith
+      at (Some a) e = grind arith
 
   module _ (alike : V → V → Bool) where
     pub commit_done : (commits : ℕ → Bool) (n : ℕ) {m : ℕ} → commit_move alike commits s n ≡ (t, Ok m) → CommitDone alike commits s n t m
@@ -254,7 +245,7 @@ module _ {V : Type 0} {s t : View V} where
               above = leb-false n (s.known a) b.0;
               fits = ltb-false (length (s.log a)) n b.1;
               present = eqb-true (last_term (take n (s.log a))) s.term (not-false _ q.0);
-              enough = is_T (commits (holders alike s a n)) (not-false _ u.0);
+              enough = T_from_true (commits (holders alike s a n)) (not-false _ u.0);
               is = w.0;
               answer = w.1;
               steady = knowing_steady s a n w.0;
@@ -268,11 +259,8 @@ module _ {V : Type 0} {s t : View V} where
     commit_refused commits n {f} e = at s.leader e
       where
         at : (o : Option ℕ) → commit_at alike commits s n o ≡ (t, Err f) → t ≡ s
-        at None e = ap (λ (p : View V × Result ℕ LogFault). p.0) (sym e)
-        at (Some a) e =
-            refused (leb n (s.known a) || ltb (length (s.log a)) n) s t _ f _ e
-            (λ e. refused (not (eqb (last_term (take n (s.log a))) s.term)) s t _ f _ e
-            (λ e. refused (not (commits (holders alike s a n))) s t _ f _ e (not_refused s t _ _ f)))
+        at None e = grind arith
+        at (Some a) e = grind arith
 
     pub rise_done : (r n : ℕ) → rise_move alike s r n ≡ (t, Ok tt) → RiseDone alike s r n t
     unfolding rise_move
@@ -290,7 +278,7 @@ module _ {V : Type 0} {s t : View V} where
 
     pub rise_refused : (r n : ℕ) {f : LogFault} → rise_move alike s r n ≡ (t, Err f) → t ≡ s
     unfolding rise_move
-    rise_refused r n {f} e = refused (not (holds_committed alike s r n)) s t _ f _ e (not_refused s t _ _ f)
+    rise_refused r n {f} e = grind arith
 
 -- ---- what a move leaves, done or refused
 

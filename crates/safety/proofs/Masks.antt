@@ -22,9 +22,6 @@ from p (suc m) k (suc r) h =
     let e : suc k + r ≡ k + suc r = omega arith in
     higher (p k) (mask_from p (suc k) m) r ∙ from p m (suc k) r (le_of_suc-le-suc h) ∙ ap (λ (x : ℕ). cond (p x) 1 0) e
 
-passes : (b : Bool) → ◌≡◌ {A = ℕ} (cond b 1 0) 1 → b ≡ true
-passes b e = grind arith
-
 -- whoever is in the set passes the test
 pub in_mask : (p : ℕ → Bool) (n r : ℕ) → r < n → bit (mask p n) r ≡ 1 → p r ≡ true
-in_mask p n r h e = passes (p r) (ap (λ (x : ℕ). cond (p x) 1 0) (sym (zero-add r)) ∙ sym (from p n 0 r h) ∙ e)
+in_mask p n r h e = let f = from p n 0 r h in grind (arith, zero-add r)
