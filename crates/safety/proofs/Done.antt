@@ -28,31 +28,6 @@ module _ {A : Type 0} (f : ℕ → A) (r : ℕ) (x : A) where
   pub put_other : (q : ℕ) → (q ≡ r → ⊥) → put f r x q ≡ f q
   put_other q d = cond-false (eqb q r) x (f q) (ne_eqb q r d)
 
--- ---- on the way to an outcome
-
-no_fault : {X : Type 0} (f : LogFault) (x : X) → ◌≡◌ {A = Result X LogFault} (Err f) (Ok x) → ⊥
-no_fault f x e = cc
-
-module _ {V X : Type 0} where
-  -- a check that was passed on the way to a done outcome
-  passed : (b : Bool) (s t : View V) (f : LogFault) (y : View V × Result X LogFault) (x : X) →
-      cond b (s, Err f) y ≡ (t, Ok x) → (b ≡ false) × (y ≡ (t, Ok x))
-  passed true s t f y x e = grind arith
-  passed false s t f y x e = (refl, e)
-
-  -- the last outcome of the chain
-  ended : (s t : View V) (x y : X) → ◌≡◌ {A = View V × Result X LogFault} (s, Ok y) (t, Ok x) → (t ≡ s) × (x ≡ y)
-  ended s t x y e = grind arith
-
-  -- a refusal at this check or at a later one
-  refused : (b : Bool) (s t : View V) (f g : LogFault) (y : View V × Result X LogFault) →
-      cond b (s, Err f) y ≡ (t, Err g) → (y ≡ (t, Err g) → t ≡ s) → t ≡ s
-  refused true s t f g y e k = grind arith
-  refused false s t f g y e k = k e
-
-  not_refused : (s t u : View V) (x : X) (g : LogFault) → ◌≡◌ {A = View V × Result X LogFault} (u, Ok x) (t, Err g) → t ≡ s
-  not_refused s t u x g e = grind arith
-
 -- ---- what a done move did
 
 -- the same copies, of the same capacity, under the same leader in the same term
@@ -156,14 +131,12 @@ module _ {V : Type 0} {s t : View V} where
   pub elect_done : (elects : ℕ → Bool) (c v : ℕ) {n : ℕ} → elect_move elects s c v ≡ (t, Ok n) → ElectDone elects s c v t n
   unfolding elect_move
   elect_done elects c v {n} e =
-      let p = passed (not (elects v)) s t _ _ n e in
-      let q = passed (not (none_newer s c v)) s t _ _ n p.1 in
-      let u = passed (eqb s.term 65535) s t _ _ n q.1 in
-      let w = ended (leading s c) t n (s.term + 1) u.1 in
+      let p : (elects v ≡ true) × (none_newer s c v ≡ true) × (eqb s.term 65535 ≡ false) = grind arith in
+      let w : (t ≡ leading s c) × (n ≡ s.term + 1) = grind arith in
       record {
-        enough = T_from_true (elects v) (not-false (elects v) p.0);
-        newest = λ r h b. let w = all_each (λ r. not (objects_to s c v r)) s.copies (not-false (none_newer s c v) q.0) r h in grind (arith, eq-eqb (bit v r) 1 b);
-        terms = eqb-false s.term 65535 u.0;
+        enough = T_from_true (elects v) p.0;
+        newest = λ r h b. let w = all_each (λ r. not (objects_to s c v r)) s.copies p.1 r h in grind (arith, eq-eqb (bit v r) 1 b);
+        terms = eqb-false s.term 65535 p.2;
         is = w.0;
         answer = w.1;
         copies_same = ap (λ (x : View V). x.copies) w.0;
@@ -181,10 +154,10 @@ module _ {V : Type 0} {s t : View V} where
   pub append_done : (a : ℕ) (x : Entry V) {n : ℕ} → append_move s a x ≡ (t, Ok n) → AppendDone s a x t n
   unfolding append_move
   append_done a x {n} e =
-      let p = passed (leb s.capacity (length (s.log a))) s t _ _ n e in
-      let w = ended (logged s a (s.log a ++ x ∷ [])) t n (length (s.log a) + 1) p.1 in
+      let p : leb s.capacity (length (s.log a)) ≡ false = grind arith in
+      let w : (t ≡ logged s a (s.log a ++ x ∷ [])) × (n ≡ length (s.log a) + 1) = grind arith in
       record {
-        room = leb-false s.capacity (length (s.log a)) p.0;
+        room = leb-false s.capacity (length (s.log a)) p;
         is = w.0;
         answer = w.1;
         steady = logged_steady s a (s.log a ++ x ∷ []) w.0;
@@ -202,14 +175,14 @@ module _ {V : Type 0} {s t : View V} where
   copy_done r {n} e = at s.leader refl e
     where
       at : (o : Option ℕ) → s.leader ≡ o → copy_from s r o ≡ (t, Ok n) → CopyDone s r t n
-      at None i e = absurd (no_fault _ n (ap (λ (p : View V × Result ℕ LogFault). p.1) e))
+      at None i e = grind arith
       at (Some a) i e =
-          let p = passed (leb (length (s.log a)) (gap (s.log a) (s.log r))) s t _ _ n e in
-          let w = ended (logged s r (copied (s.log a) (s.log r))) t n (gap (s.log a) (s.log r) + 1) p.1 in
+          let p : leb (length (s.log a)) (gap (s.log a) (s.log r)) ≡ false = grind arith in
+          let w : (t ≡ logged s r (copied (s.log a) (s.log r))) × (n ≡ gap (s.log a) (s.log r) + 1) = grind arith in
           record {
             from = a;
             led = i;
-            lacks = leb-false (length (s.log a)) (gap (s.log a) (s.log r)) p.0;
+            lacks = leb-false (length (s.log a)) (gap (s.log a) (s.log r)) p;
             is = w.0;
             answer = w.1;
             steady = logged_steady s r (copied (s.log a) (s.log r)) w.0;
@@ -232,20 +205,18 @@ module _ {V : Type 0} {s t : View V} where
     commit_done commits n {m} e = at s.leader refl e
       where
         at : (o : Option ℕ) → s.leader ≡ o → commit_at alike commits s n o ≡ (t, Ok m) → CommitDone alike commits s n t m
-        at None i e = absurd (no_fault _ m (ap (λ (p : View V × Result ℕ LogFault). p.1) e))
+        at None i e = grind arith
         at (Some a) i e =
-            let p = passed (leb n (s.known a) || ltb (length (s.log a)) n) s t _ _ m e in
-            let q = passed (not (eqb (last_term (take n (s.log a))) s.term)) s t _ _ m p.1 in
-            let u = passed (not (commits (holders alike s a n))) s t _ _ m q.1 in
-            let w = ended (knowing s a n) t m n u.1 in
-            let b = or_parts (leb n (s.known a)) (ltb (length (s.log a)) n) p.0 in
+            let p : (leb n (s.known a) ≡ false) × (ltb (length (s.log a)) n ≡ false) × (eqb (last_term (take n (s.log a))) s.term ≡ true)
+            × (commits (holders alike s a n) ≡ true) = grind arith in
+            let w : (t ≡ knowing s a n) × (m ≡ n) = grind arith in
             record {
               by = a;
               led = i;
-              above = leb-false n (s.known a) b.0;
-              fits = ltb-false (length (s.log a)) n b.1;
-              present = eqb-true (last_term (take n (s.log a))) s.term (not-false _ q.0);
-              enough = T_from_true (commits (holders alike s a n)) (not-false _ u.0);
+              above = leb-false n (s.known a) p.0;
+              fits = ltb-false (length (s.log a)) n p.1;
+              present = eqb-true (last_term (take n (s.log a))) s.term p.2;
+              enough = T_from_true (commits (holders alike s a n)) p.3;
               is = w.0;
               answer = w.1;
               steady = knowing_steady s a n w.0;
@@ -265,15 +236,15 @@ module _ {V : Type 0} {s t : View V} where
     pub rise_done : (r n : ℕ) → rise_move alike s r n ≡ (t, Ok tt) → RiseDone alike s r n t
     unfolding rise_move
     rise_done r n e =
-        let p = passed (not (holds_committed alike s r n)) s t _ _ tt e in
-        let w = ended (knowing s r (max (s.known r) n)) t tt tt p.1 in
+        let h : holds_committed alike s r n ≡ true = grind arith in
+        let w : t ≡ knowing s r (max (s.known r) n) = grind arith in
         record {
-          held = not-false (holds_committed alike s r n) p.0;
-          is = w.0;
-          steady = knowing_steady s r (max (s.known r) n) w.0;
-          own = knowing_own s r (max (s.known r) n) w.0;
-          others = knowing_others s r (max (s.known r) n) w.0;
-          logs = knowing_logs s r (max (s.known r) n) w.0;
+          held = h;
+          is = w;
+          steady = knowing_steady s r (max (s.known r) n) w;
+          own = knowing_own s r (max (s.known r) n) w;
+          others = knowing_others s r (max (s.known r) n) w;
+          logs = knowing_logs s r (max (s.known r) n) w;
         }
 
     pub rise_refused : (r n : ℕ) {f : LogFault} → rise_move alike s r n ≡ (t, Err f) → t ≡ s
