@@ -1,8 +1,8 @@
 -- Entries and runs of entries that the tests call alike are one.
-use Rattle.std.proofs.Common.{◌≡◌, ℕ, Bool, true, eqb, List, [], ◌∷◌, refl, ap₂, arith}
+use Rattle.std.proofs.Common.{◌≡◌, Bool, true, List, [], ◌∷◌, refl, arith}
 use Rattle.std.proofs.lemmas.Bool.{and_parts, eqb-true}
 use Rattle.entries.specs.declared.entry.Entry.{Entry}
-use Rattle.entries.specs.Compare.{content_alike, entry_alike, all_alike}
+use Rattle.entries.specs.Compare.{entry_alike, all_alike}
 use Rattle.safety.specs.Runs.{Telling}
 
 module _ {V : Type 0} where
