@@ -1,5 +1,6 @@
 // Rehearses a service of brightnesses: records of 24 bytes on standard input, and 24 bytes for each on
 // standard output.
+// The body is that of rehearse_place but for the kind: below the programs nothing reads or writes.
 #![tactic(auto)]
 
 use kinds::Brightness;

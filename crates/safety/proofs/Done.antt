@@ -1,7 +1,8 @@
 -- What each move did: of one that is done every check was passed, and one that is refused leaves the view as it was.
-use Rattle.std.proofs.Common.{◌≡◌, ℕ, ◌+◌, ◌<◌, ◌≤◌, max, Bool, true, false, cond, not, ◌&&◌, ◌||◌, T, eqb, ltb, leb, List, [], ◌∷◌, ◌++◌, length, take, Some, None, Ok, Err, Option, Result, sym, refl, ap, subst, arith}
-use Rattle.std.proofs.lemmas.Bool.{cond-true, cond-false, eq-eqb, ne_eqb, and_parts, or_parts, not-false, leb-true, leb-false, ltb-false, eqb-true, eqb-false}
-use Rattle.votes.specs.Sets.{bit, has}
+use Rattle.std.proofs.Common.{◌≡◌, ℕ, ◌+◌, ◌<◌, ◌≤◌, max, Bool, true, false, not, T, eqb, ltb, leb, List, [], ◌∷◌, ◌++◌, length, take, Some, None, Ok, Err, Option, Result, sym, refl, ap, subst, arith}
+use Rattle.std.proofs.lemmas.Float.{T_from_true}
+use Rattle.std.proofs.lemmas.Bool.{cond-true, cond-false, eq-eqb, ne_eqb, and_parts, leb-true, leb-false, ltb-false, eqb-true, eqb-false}
+use Rattle.votes.specs.Sets.{bit}
 use Rattle.entries.specs.declared.entry.Entry.{Entry}
 use Rattle.entries.specs.Compare.{all_alike}
 use Rattle.entries.specs.Fronts.{last_term, newer, gap}
@@ -16,10 +17,6 @@ use Rattle.safety.proofs.Alike.{all_one}
 
 -- ---- tests, and one value put into a function
 
-pub is_T : (b : Bool) → b ≡ true → T b
-is_T true e = tt
-is_T false e = absurd (let z : ◌≡◌ {A = ℕ} 0 1 = cc in omega arith)
-
 pub is_true : (b : Bool) → T b → b ≡ true
 is_true true h = refl
 is_true false h = absurd h
@@ -30,33 +27,6 @@ module _ {A : Type 0} (f : ℕ → A) (r : ℕ) (x : A) where
 
   pub put_other : (q : ℕ) → (q ≡ r → ⊥) → put f r x q ≡ f q
   put_other q d = cond-false (eqb q r) x (f q) (ne_eqb q r d)
-
--- ---- on the way to an outcome
-
-no_fault : {X : Type 0} (f : LogFault) (x : X) → ◌≡◌ {A = Result X LogFault} (Err f) (Ok x) → ⊥
-no_fault f x e = let z : ◌≡◌ {A = ℕ} 0 1 = cc in omega arith
-
-module _ {V X : Type 0} where
-  -- a check that was passed on the way to a done outcome
-  passed : (b : Bool) (s t : View V) (f : LogFault) (y : View V × Result X LogFault) (x : X) →
-      cond b (s, Err f) y ≡ (t, Ok x) → (b ≡ false) × (y ≡ (t, Ok x))
-  passed true s t f y x e = absurd (no_fault f x (ap (λ (p : View V × Result X LogFault). p.1) e))
-  passed false s t f y x e = (refl, e)
-
-  -- the last outcome of the chain
-  ended : (s t : View V) (x y : X) → ◌≡◌ {A = View V × Result X LogFault} (s, Ok y) (t, Ok x) → (t ≡ s) × (x ≡ y)
-  ended s t x y e =
-      let k : ◌≡◌ {A = Result X LogFault} (Ok y) (Ok x) = ap (λ (p : View V × Result X LogFault). p.1) e in
-      (ap (λ (p : View V × Result X LogFault). p.0) (sym e), cc)
-
-  -- a refusal at this check or at a later one
-  refused : (b : Bool) (s t : View V) (f g : LogFault) (y : View V × Result X LogFault) →
-      cond b (s, Err f) y ≡ (t, Err g) → (y ≡ (t, Err g) → t ≡ s) → t ≡ s
-  refused true s t f g y e k = ap (λ (p : View V × Result X LogFault). p.0) (sym e)
-  refused false s t f g y e k = k e
-
-  not_refused : (s t u : View V) (x : X) (g : LogFault) → ◌≡◌ {A = View V × Result X LogFault} (u, Ok x) (t, Err g) → t ≡ s
-  not_refused s t u x g e = absurd (no_fault g x (sym (ap (λ (p : View V × Result X LogFault). p.1) e)))
 
 -- ---- what a done move did
 
@@ -161,14 +131,12 @@ module _ {V : Type 0} {s t : View V} where
   pub elect_done : (elects : ℕ → Bool) (c v : ℕ) {n : ℕ} → elect_move elects s c v ≡ (t, Ok n) → ElectDone elects s c v t n
   unfolding elect_move
   elect_done elects c v {n} e =
-      let p = passed (not (elects v)) s t _ _ n e in
-      let q = passed (not (none_newer s c v)) s t _ _ n p.1 in
-      let u = passed (eqb s.term 65535) s t _ _ n q.1 in
-      let w = ended (leading s c) t n (s.term + 1) u.1 in
+      let p : (elects v ≡ true) × (none_newer s c v ≡ true) × (eqb s.term 65535 ≡ false) = grind arith in
+      let w : (t ≡ leading s c) × (n ≡ s.term + 1) = grind arith in
       record {
-        enough = is_T (elects v) (not-false (elects v) p.0);
-        newest = λ r h b. calm (has v r) (newer (s.log r) (s.log c)) (eq-eqb (bit v r) 1 b) (all_each (λ r. not (objects_to s c v r)) s.copies (not-false (none_newer s c v) q.0) r h);
-        terms = eqb-false s.term 65535 u.0;
+        enough = T_from_true (elects v) p.0;
+        newest = λ r h b. let w = all_each (λ r. not (objects_to s c v r)) s.copies p.1 r h in grind (arith, eq-eqb (bit v r) 1 b);
+        terms = eqb-false s.term 65535 p.2;
         is = w.0;
         answer = w.1;
         copies_same = ap (λ (x : View V). x.copies) w.0;
@@ -178,24 +146,18 @@ module _ {V : Type 0} {s t : View V} where
         next = ap (λ (x : View V). x.term) w.0;
         leads = ap (λ (x : View V). x.leader) w.0;
       }
-    where
-      calm : (x y : Bool) → x ≡ true → not (x && y) ≡ true → y ≡ false
-      calm true true h k = absurd (let z : ◌≡◌ {A = ℕ} 0 1 = cc in omega arith)
-      calm true false h k = refl
-      calm false y h k = absurd (let z : ◌≡◌ {A = ℕ} 0 1 = cc in omega arith)
 
   pub elect_refused : (elects : ℕ → Bool) (c v : ℕ) {f : LogFault} → elect_move elects s c v ≡ (t, Err f) → t ≡ s
   unfolding elect_move
-  elect_refused elects c v {f} e =
-      refused (not (elects v)) s t _ f _ e (λ e. refused (not (none_newer s c v)) s t _ f _ e (λ e. refused (eqb s.term 65535) s t _ f _ e (not_refused s t _ _ f)))
+  elect_refused elects c v {f} e = grind arith
 
   pub append_done : (a : ℕ) (x : Entry V) {n : ℕ} → append_move s a x ≡ (t, Ok n) → AppendDone s a x t n
   unfolding append_move
   append_done a x {n} e =
-      let p = passed (leb s.capacity (length (s.log a))) s t _ _ n e in
-      let w = ended (logged s a (s.log a ++ x ∷ [])) t n (length (s.log a) + 1) p.1 in
+      let p : leb s.capacity (length (s.log a)) ≡ false = grind arith in
+      let w : (t ≡ logged s a (s.log a ++ x ∷ [])) × (n ≡ length (s.log a) + 1) = grind arith in
       record {
-        room = leb-false s.capacity (length (s.log a)) p.0;
+        room = leb-false s.capacity (length (s.log a)) p;
         is = w.0;
         answer = w.1;
         steady = logged_steady s a (s.log a ++ x ∷ []) w.0;
@@ -206,21 +168,21 @@ module _ {V : Type 0} {s t : View V} where
 
   pub append_refused : (a : ℕ) (x : Entry V) {f : LogFault} → append_move s a x ≡ (t, Err f) → t ≡ s
   unfolding append_move
-  append_refused a x {f} e = refused (leb s.capacity (length (s.log a))) s t _ f _ e (not_refused s t _ _ f)
+  append_refused a x {f} e = grind arith
 
   pub copy_done : (r : ℕ) {n : ℕ} → copy_move s r ≡ (t, Ok n) → CopyDone s r t n
   unfolding copy_move
   copy_done r {n} e = at s.leader refl e
     where
       at : (o : Option ℕ) → s.leader ≡ o → copy_from s r o ≡ (t, Ok n) → CopyDone s r t n
-      at None i e = absurd (no_fault _ n (ap (λ (p : View V × Result ℕ LogFault). p.1) e))
+      at None i e = grind arith
       at (Some a) i e =
-          let p = passed (leb (length (s.log a)) (gap (s.log a) (s.log r))) s t _ _ n e in
-          let w = ended (logged s r (copied (s.log a) (s.log r))) t n (gap (s.log a) (s.log r) + 1) p.1 in
+          let p : leb (length (s.log a)) (gap (s.log a) (s.log r)) ≡ false = grind arith in
+          let w : (t ≡ logged s r (copied (s.log a) (s.log r))) × (n ≡ gap (s.log a) (s.log r) + 1) = grind arith in
           record {
             from = a;
             led = i;
-            lacks = leb-false (length (s.log a)) (gap (s.log a) (s.log r)) p.0;
+            lacks = leb-false (length (s.log a)) (gap (s.log a) (s.log r)) p;
             is = w.0;
             answer = w.1;
             steady = logged_steady s r (copied (s.log a) (s.log r)) w.0;
@@ -234,8 +196,8 @@ module _ {V : Type 0} {s t : View V} where
   copy_refused r {f} e = at s.leader e
     where
       at : (o : Option ℕ) → copy_from s r o ≡ (t, Err f) → t ≡ s
-      at None e = ap (λ (p : View V × Result ℕ LogFault). p.0) (sym e)
-      at (Some a) e = refused (leb (length (s.log a)) (gap (s.log a) (s.log r))) s t _ f _ e (not_refused s t _ _ f)
+      at None e = grind arith
+      at (Some a) e = grind arith
 
   module _ (alike : V → V → Bool) where
     pub commit_done : (commits : ℕ → Bool) (n : ℕ) {m : ℕ} → commit_move alike commits s n ≡ (t, Ok m) → CommitDone alike commits s n t m
@@ -243,20 +205,18 @@ module _ {V : Type 0} {s t : View V} where
     commit_done commits n {m} e = at s.leader refl e
       where
         at : (o : Option ℕ) → s.leader ≡ o → commit_at alike commits s n o ≡ (t, Ok m) → CommitDone alike commits s n t m
-        at None i e = absurd (no_fault _ m (ap (λ (p : View V × Result ℕ LogFault). p.1) e))
+        at None i e = grind arith
         at (Some a) i e =
-            let p = passed (leb n (s.known a) || ltb (length (s.log a)) n) s t _ _ m e in
-            let q = passed (not (eqb (last_term (take n (s.log a))) s.term)) s t _ _ m p.1 in
-            let u = passed (not (commits (holders alike s a n))) s t _ _ m q.1 in
-            let w = ended (knowing s a n) t m n u.1 in
-            let b = or_parts (leb n (s.known a)) (ltb (length (s.log a)) n) p.0 in
+            let p : (leb n (s.known a) ≡ false) × (ltb (length (s.log a)) n ≡ false) × (eqb (last_term (take n (s.log a))) s.term ≡ true)
+            × (commits (holders alike s a n) ≡ true) = grind arith in
+            let w : (t ≡ knowing s a n) × (m ≡ n) = grind arith in
             record {
               by = a;
               led = i;
-              above = leb-false n (s.known a) b.0;
-              fits = ltb-false (length (s.log a)) n b.1;
-              present = eqb-true (last_term (take n (s.log a))) s.term (not-false _ q.0);
-              enough = is_T (commits (holders alike s a n)) (not-false _ u.0);
+              above = leb-false n (s.known a) p.0;
+              fits = ltb-false (length (s.log a)) n p.1;
+              present = eqb-true (last_term (take n (s.log a))) s.term p.2;
+              enough = T_from_true (commits (holders alike s a n)) p.3;
               is = w.0;
               answer = w.1;
               steady = knowing_steady s a n w.0;
@@ -270,29 +230,26 @@ module _ {V : Type 0} {s t : View V} where
     commit_refused commits n {f} e = at s.leader e
       where
         at : (o : Option ℕ) → commit_at alike commits s n o ≡ (t, Err f) → t ≡ s
-        at None e = ap (λ (p : View V × Result ℕ LogFault). p.0) (sym e)
-        at (Some a) e =
-            refused (leb n (s.known a) || ltb (length (s.log a)) n) s t _ f _ e
-            (λ e. refused (not (eqb (last_term (take n (s.log a))) s.term)) s t _ f _ e
-            (λ e. refused (not (commits (holders alike s a n))) s t _ f _ e (not_refused s t _ _ f)))
+        at None e = grind arith
+        at (Some a) e = grind arith
 
     pub rise_done : (r n : ℕ) → rise_move alike s r n ≡ (t, Ok tt) → RiseDone alike s r n t
     unfolding rise_move
     rise_done r n e =
-        let p = passed (not (holds_committed alike s r n)) s t _ _ tt e in
-        let w = ended (knowing s r (max (s.known r) n)) t tt tt p.1 in
+        let h : holds_committed alike s r n ≡ true = grind arith in
+        let w : t ≡ knowing s r (max (s.known r) n) = grind arith in
         record {
-          held = not-false (holds_committed alike s r n) p.0;
-          is = w.0;
-          steady = knowing_steady s r (max (s.known r) n) w.0;
-          own = knowing_own s r (max (s.known r) n) w.0;
-          others = knowing_others s r (max (s.known r) n) w.0;
-          logs = knowing_logs s r (max (s.known r) n) w.0;
+          held = h;
+          is = w;
+          steady = knowing_steady s r (max (s.known r) n) w;
+          own = knowing_own s r (max (s.known r) n) w;
+          others = knowing_others s r (max (s.known r) n) w;
+          logs = knowing_logs s r (max (s.known r) n) w;
         }
 
     pub rise_refused : (r n : ℕ) {f : LogFault} → rise_move alike s r n ≡ (t, Err f) → t ≡ s
     unfolding rise_move
-    rise_refused r n {f} e = refused (not (holds_committed alike s r n)) s t _ f _ e (not_refused s t _ _ f)
+    rise_refused r n {f} e = grind arith
 
 -- ---- what a move leaves, done or refused
 

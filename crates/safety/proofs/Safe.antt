@@ -1,7 +1,8 @@
 -- What every run of the log keeps, and that each move keeps it.
-use Rattle.std.proofs.Common.{◌≡◌, ℕ, zero, suc, ◌<◌, ◌≤◌, max, Bool, false, T, eqb, ltb, ◌⊎◌, List, [], ◌∷◌, ◌++◌, length, take, drop, Some, None, Ok, Err, Option, Result, sym, refl, ap, ◌∙◌, subst, inl, inr, zero-le, le_refl, not-suc-le-zero, arith}
+use Rattle.std.proofs.Common.{◌≡◌, ℕ, zero, suc, ◌<◌, ◌≤◌, max, Bool, false, T, eqb, ◌⊎◌, List, [], ◌∷◌, ◌++◌, length, take, drop, Some, None, Ok, Err, Option, Result, sym, refl, ap, ◌∙◌, subst, inl, inr, zero-le, arith}
 use mathlib.Core.Logic.{⊎_map}
-use Rattle.std.proofs.lemmas.Bool.{cases_eq, cases_lt, cond_both, and_parts, or_parts, and_cases, eqb-true, ltb-true, ltb-false, eqb-false}
+use Rattle.std.proofs.lemmas.Bool.Decides.{nat_tests}
+use Rattle.std.proofs.lemmas.Bool.{cases_lt, cond_both, eqb-true}
 use Rattle.std.proofs.lemmas.List.{length-take-le, length_push, take-take}
 use Rattle.votes.specs.Sets.{bit}
 use Rattle.entries.specs.declared.entry.Entry.{Entry}
@@ -22,12 +23,8 @@ pub put_at_lem : {A : Type 0} (f : ℕ → A) (r : ℕ) (x : A) (P : ℕ → A �
 put_at_lem f r x P here there q = cond_both (eqb q r) x (f q) (P q) (λ b. rw (eqb-true q r b) here) (λ b. there q)
 
 pub greatest_most : (f : ℕ → ℕ) (n r : ℕ) → r < n → f r ≤ f (greatest f n)
-greatest_most f zero r h = absurd (not-suc-le-zero h)
-greatest_most f (suc n) r h =
-    let below : r < n → f r ≤ f (greatest f n) = greatest_most f n r in
-    cond_both (ltb (f (greatest f n)) (f n)) n (greatest f n) (λ (m : ℕ). f r ≤ f m)
-    (λ b. elim (cases_eq r n) [ inl e ↦ rw e (le_refl (f n)) | inr d ↦ omega (arith, below (omega arith), ltb-true (f (greatest f n)) (f n) b) ])
-    (λ b. elim (cases_eq r n) [ inl e ↦ rw e (ltb-false (f (greatest f n)) (f n) b) | inr d ↦ below (omega arith) ])
+greatest_most f zero r h = omega arith
+greatest_most f (suc n) r h = let below = greatest_most f n r in grind (arith, nat_tests)
 
 -- ---- the invariant
 
@@ -54,7 +51,7 @@ pub record Inv {V : Type 0} (elects : ℕ → Bool) (s : View V) (C : List (Entr
   pub most : (r : ℕ) × (r < s.copies) × (s.known r ≡ length C)
 
 never : {A : Type 0} (a : ℕ) → ◌≡◌ {A = Option ℕ} None (Some a) → A
-never a e = absurd (let z : ◌≡◌ {A = ℕ} 0 1 = cc in omega arith)
+never a e = cc
 
 some : (a b : ℕ) → ◌≡◌ {A = Option ℕ} (Some a) (Some b) → a ≡ b
 some a b e = cc
@@ -114,8 +111,7 @@ module _ {V : Type 0} {elects : ℕ → Bool} {s : View V} {C : List (Entry V)} 
   pub ready_knows : (a : ℕ) → s.leader ≡ Some a → T (ready s a) → known_log s a ≡ C
   ready_knows a e h =
       let w = I.each a in
-      let u : last_term (known_log s a) ≡ s.term =
-      eqb-true (last_term (known_log s a)) s.term (and_parts (ltb 0 (s.known a)) (eqb (last_term (known_log s a)) s.term) (is_true (ready s a) h)).1 in
+      let u : last_term (known_log s a) ≡ s.term = let t = is_true (ready s a) h in grind (arith, nat_tests) in
       rw (known_is a) (elim (I.led a e).fresh [
         | inl k ↦ same C w.2 (omega (arith, w.3))
         | inr k ↦ absurd (omega (arith, k w.0 w.2, ap last_term (known_is a)))
@@ -129,19 +125,11 @@ module _ {V : Type 0} {elects : ℕ → Bool} {s : View V} {C : List (Entry V)} 
       among : (r : ℕ) → r < s.copies → bit v r ≡ 1 → C ≼ s.log r → C ≼ s.log c
       among r b m h =
           let m1 : last_term C ≤ last_term (s.log r) = I.mono h (r, whole (s.log r)) in
-          let o = or_parts (ltb (last_term (s.log c)) (last_term (s.log r))) _ (calm r b m) in
-          let n1 : last_term (s.log r) ≤ last_term (s.log c) = ltb-false (last_term (s.log c)) (last_term (s.log r)) o.0 in
           let l1 : length C ≤ length (s.log r) = shorter h in
+          let calm : newer (s.log r) (s.log c) ≡ false = calm r b m in
           elim (cases_lt (last_term C) (last_term (s.log c))) [
             | inl k ↦ I.later (c, whole (s.log c)) k
-            | inr k ↦
-                let e1 : last_term (s.log r) ≡ last_term (s.log c) = omega arith in
-                let n2 : length (s.log r) ≤ length (s.log c) =
-                elim (and_cases (eqb (last_term (s.log r)) (last_term (s.log c))) (ltb (length (s.log c)) (length (s.log r))) o.1) [
-                  | inl j ↦ absurd (eqb-false (last_term (s.log r)) (last_term (s.log c)) j e1)
-                  | inr j ↦ ltb-false (length (s.log c)) (length (s.log r)) j
-                ] in
-                I.agree (r, h) (c, whole (s.log c)) (omega arith) (omega arith)
+            | inr k ↦ I.agree (r, h) (c, whole (s.log c)) (grind (arith, nat_tests)) (grind (arith, nat_tests))
           ]
 
   elected : (c v : ℕ) → c < s.copies → T (elects v) → ((r : ℕ) → r < s.copies → bit v r ≡ 1 → newer (s.log r) (s.log c) ≡ false) → Inv elects (leading s c) C

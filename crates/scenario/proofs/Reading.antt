@@ -15,22 +15,13 @@ value_grows n (b ∷ bs) = let h = value_grows (more n b) bs in omega (arith, h)
 over : (m n : ℕ) (bs : List ℕ) → leb n m ≡ false → read_from m n bs ≡ None
 over m n bs h = let k = value_grows n bs in grind (arith, k)
 
-module _ (m n b : ℕ) (bs : List ℕ) where
-  pub read_no : None ≡ with_digit m n b → read_from m n (b ∷ bs) ≡ None
-  read_no h = let k = over m (more n b) bs in grind (arith, k)
-
-  pub read_yes : (k : ℕ) → Some k ≡ with_digit m n b → (read_from m n (b ∷ bs) ≡ read_from m k bs) × (k ≤ m)
-  read_yes k h = grind arith
-
--- the same at place i of a word
+-- one byte more, at place i of a word
 module _ (m n : ℕ) (s : List ℕ) (i : ℕ) where
   pub place_no : i < length s → None ≡ with_digit m n (get_or s i 0) → read_from m n (drop i s) ≡ None
-  place_no h e = at_drop_more (read_from m n) s i 0 h ∙ read_no m n (get_or s i 0) (drop (i + 1) s) e
+  place_no h e = let k = over m (more n (get_or s i 0)) (drop (i + 1) s) in at_drop_more (read_from m n) s i 0 h ∙ grind (arith, k)
 
   pub place_yes : (k : ℕ) → i < length s → Some k ≡ with_digit m n (get_or s i 0) → (read_from m n (drop i s) ≡ read_from m k (drop (i + 1) s)) × (k ≤ m)
-  place_yes k h e =
-      let p = read_yes m n (get_or s i 0) (drop (i + 1) s) k e in
-      (at_drop_more (read_from m n) s i 0 h ∙ p.0, p.1)
+  place_yes k h e = rw (at_drop_more (read_from m n) s i 0 h) (grind arith)
 
   pub place_end : length s ≤ i → n ≤ m → read_from m n (drop i s) ≡ Some n
   place_end h e = at_drop_all (read_from m n) s i h ∙ grind arith

@@ -39,12 +39,12 @@ fn tell_unreadable(
 fn tell_asked(
     out: &mut String,
     line: u64,
-    call: &Call<Place>,
-    m: &Option<Message<Place>>,
+    call: Call<Place>,
+    m: Option<Message<Place>>,
 ) -> Result<(), AllocError> {
-    write!(out, "line {line}: {}", CallText(*call))?;
+    write!(out, "line {line}: {}", CallText(call))?;
     match m {
-        Some(m) => writeln!(out, " ({})", BriefText(*m)),
+        Some(m) => writeln!(out, " ({})", BriefText(m)),
         None => writeln!(out),
     }
 }
@@ -82,7 +82,7 @@ impl<R: VoteRule> Story<'_, R> {
     // Carries the step out, and tells what was asked and what came of it.
     fn tell_step(&mut self, line: u64, call: Call<Place>) -> Result<(), AllocError> {
         let m = self.handled(&call);
-        tell_asked(self.out, line, &call, &m)?;
+        tell_asked(self.out, line, call, m)?;
         let before = self.service.table.count;
         let came = perform(
             &mut self.service,
