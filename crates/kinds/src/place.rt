@@ -1,6 +1,5 @@
 ghost use Rattle.std.specs.Prelude.{◌≡◌, true};
-ghost use Rattle.kinds.specs.Numbers.{same_int};
-ghost use Rattle.kinds.specs.Place.{place_fits, lawful_place, place_bytes, place_parsed, blank_place, same_place};
+ghost use Rattle.kinds.specs.Place.{place_fits, lawful_place, place_bytes, place_parsed, blank_place};
 ghost use Rattle.kinds.specs.PlaceLaws.{place_written};
 ghost use Rattle.kinds.specs.SamePlace.{decides_place};
 ghost use Rattle.std.proofs.Common.{rules};
@@ -9,27 +8,13 @@ use crate::kind::RecordKind;
 
 // Where a star stands: right ascension and declination, its motion in each, and the year that
 // they hold for.
-#[derive(Clone, Copy)]
+#[derive(Clone, Copy, PartialEq, Eq)]
 pub struct Place {
     pub ascension: u32,
     pub declination: i32,
     pub motion_ra: i16,
     pub motion_dec: i16,
     pub year: u16,
-}
-
-// Whether two angles are one.
-fn same_angle(a: i32, b: i32) -> bool
-    ensures { result ≡ same_int a b }
-{
-    a == b
-}
-
-// Whether two motions are one.
-fn same_motion(a: i16, b: i16) -> bool
-    ensures { result ≡ same_int a b }
-{
-    a == b
 }
 
 impl RecordKind for Place {
@@ -45,15 +30,13 @@ impl RecordKind for Place {
 
     ghost blank_value = { blank_place };
 
-    ghost alike = { same_place };
-
     ghost read_back = { Prim.search rules };
 
     ghost written_back = { λ b v s e. let w = place_written b v s e in (w.0, tt, w.1) };
 
     ghost blank_well_formed = { Prim.search rules };
 
-    ghost alike_decides = { λ p q. decides_place p q };
+    ghost eq_decides = { λ p q. decides_place p q };
 
     // Every place is well formed.
     fn is_well_formed(self) -> bool {
@@ -120,13 +103,5 @@ impl RecordKind for Place {
             motion_dec: 0,
             year: 0,
         }
-    }
-
-    fn same(self, other: Place) -> bool {
-        (self.ascension == other.ascension)
-            & same_angle(self.declination, other.declination)
-            & same_motion(self.motion_ra, other.motion_ra)
-            & same_motion(self.motion_dec, other.motion_dec)
-            & (self.year == other.year)
     }
 }
