@@ -7,6 +7,7 @@ ghost use Rattle.kinds.specs.BrightnessLaws.{brightness_read, brightness_written
 ghost use Rattle.kinds.specs.SameMagnitude.{decides_brightness};
 
 use crate::kind::RecordKind;
+use crate::year::lawful_year;
 
 // The brightest and the faintest lawful magnitude.
 const BRIGHTEST: f32 = -30.0;
@@ -57,8 +58,8 @@ impl PartialEq for Brightness {
 
     fn eq(&self, other: &Brightness) -> bool {
         same_magnitude(self.visual, other.visual)
-            & same_magnitude(self.blue, other.blue)
-            & (self.year == other.year)
+            && same_magnitude(self.blue, other.blue)
+            && self.year == other.year
     }
 }
 
@@ -93,10 +94,7 @@ impl RecordKind for Brightness {
     }
 
     fn is_lawful(self) -> bool {
-        lawful_magnitude(self.visual)
-            & lawful_magnitude(self.blue)
-            & (self.year >= 1900)
-            & (self.year <= 2100)
+        lawful_magnitude(self.visual) && lawful_magnitude(self.blue) && lawful_year(self.year)
     }
 
     fn to_bytes(self) -> Option<[u8; 16]> {
@@ -128,7 +126,7 @@ impl RecordKind for Brightness {
             z4,
             z5,
         ] = *b;
-        if z0 != 0 || z1 != 0 || z2 != 0 || z3 != 0 || z4 != 0 || z5 != 0 {
+        if [z0, z1, z2, z3, z4, z5] != [0; 6] {
             return None;
         }
         let visual = u32::from_le_bytes([v0, v1, v2, v3]);

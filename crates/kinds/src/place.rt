@@ -1,10 +1,11 @@
 ghost use Rattle.std.specs.Prelude.{◌≡◌, true};
-ghost use Rattle.kinds.specs.Place.{place_fits, lawful_place, place_bytes, place_parsed, blank_place};
+ghost use Rattle.kinds.specs.Place.{place_fits, lawful_declination, lawful_motion, lawful_place, place_bytes, place_parsed, blank_place};
 ghost use Rattle.kinds.specs.PlaceLaws.{place_written};
 ghost use Rattle.kinds.specs.SamePlace.{decides_place};
 ghost use Rattle.std.proofs.Common.{rules};
 
 use crate::kind::RecordKind;
+use crate::year::lawful_year;
 
 // Where a star stands: right ascension and declination, its motion in each, and the year that
 // they hold for.
@@ -15,6 +16,19 @@ pub struct Place {
     pub motion_ra: i16,
     pub motion_dec: i16,
     pub year: u16,
+}
+
+// A declination from -90 to 90 degrees, in thousandths of a second of arc.
+fn lawful_declination(declination: i32) -> bool
+    ensures { result ≡ lawful_declination declination }
+{
+    (-324_000_000..=324_000_000).contains(&declination)
+}
+
+fn lawful_motion(motion: i16) -> bool
+    ensures { result ≡ lawful_motion motion }
+{
+    (-20_000..=20_000).contains(&motion)
 }
 
 impl RecordKind for Place {
@@ -45,14 +59,10 @@ impl RecordKind for Place {
 
     fn is_lawful(self) -> bool {
         (self.ascension <= 1_295_999_999)
-            & (self.declination >= -324_000_000)
-            & (self.declination <= 324_000_000)
-            & (self.motion_ra >= -20_000)
-            & (self.motion_ra <= 20_000)
-            & (self.motion_dec >= -20_000)
-            & (self.motion_dec <= 20_000)
-            & (self.year >= 1900)
-            & (self.year <= 2100)
+            & lawful_declination(self.declination)
+            & lawful_motion(self.motion_ra)
+            & lawful_motion(self.motion_dec)
+            & lawful_year(self.year)
     }
 
     fn to_bytes(self) -> Option<[u8; 16]> {
@@ -83,7 +93,7 @@ impl RecordKind for Place {
             z0,
             z1,
         ] = *b;
-        if z0 != 0 || z1 != 0 {
+        if [z0, z1] != [0; 2] {
             return None;
         }
         Some(Place {
