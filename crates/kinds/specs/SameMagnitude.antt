@@ -1,7 +1,6 @@
 -- The tests that say whether two magnitudes, and two brightnesses, are one.
-use Rattle.std.specs.Prelude.{◌≡◌, ℕ, Bool, true, false, ◌&&◌, T, ℤ, Decides, ◌==◌, refl, Float}
-use Rattle.std.proofs.Common.{sym, ap, ◌∙◌, arith}
-use Rattle.std.specs.Bool.{beq}
+use Rattle.std.specs.Prelude.{◌≡◌, ℕ, Bool, true, T, ℤ, Decides, ◌==◌, refl, Float}
+use Rattle.std.proofs.Common.{sym, ap, ◌∙◌}
 use Rattle.std.specs.Cmp.{booleans_Decides}
 use Rattle.std.specs.Float.Ieee as Ieee
 use Rattle.std.specs.Float.{nan, inf, fin, binary32}
@@ -44,25 +43,11 @@ by_bits x y f g =
     (Decides-like _ (λ e. sym (of_bits-to_bits binary32 x f) ∙ ap (Ieee.of_bits binary32) e ∙ of_bits-to_bits binary32 y g) (λ e. ap (Ieee.to_bits binary32) e) (Decides-eqb (Ieee.to_bits binary32 x) (Ieee.to_bits binary32 y)))
     (decides_magnitude x y)
 
-nans : (x y : Float) → (Ieee.is_nan x ≡ true) → (Ieee.is_nan x && Ieee.is_nan y) ≡ same_magnitude x y
-unfolding Ieee.is_nan
-nans nan nan h = refl
-nans nan (inf t) h = refl
-nans nan (fin t n d) h = refl
-nans (inf s) y h = cc
-nans (fin s m e) y h = cc
-
-nans_right : (x y : Float) → (Ieee.is_nan y ≡ true) → (Ieee.is_nan x && Ieee.is_nan y) ≡ same_magnitude x y
-unfolding Ieee.is_nan
-nans_right nan nan h = refl
-nans_right (inf s) nan h = refl
-nans_right (fin s m e) nan h = refl
-nans_right x (inf t) h = cc
-nans_right x (fin t n d) h = cc
-
 -- a NaN is the same as a NaN alone
 pub nan_first : (x y : Float) → true ≡ Ieee.is_nan x → Ieee.is_nan y ≡ same_magnitude x y
-nan_first x y h = let e = nans x y (sym h) in rw (← h) at e
-
-pub nan_second : (x y : Float) → false ≡ Ieee.is_nan x → true ≡ Ieee.is_nan y → false ≡ same_magnitude x y
-nan_second x y h k = let e = nans_right x y (sym k) in rw (← h) at e
+unfolding Ieee.is_nan
+nan_first nan nan h = refl
+nan_first nan (inf t) h = refl
+nan_first nan (fin t n d) h = refl
+nan_first (inf s) y h = cc
+nan_first (fin s m e) y h = cc
