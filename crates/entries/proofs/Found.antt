@@ -1,5 +1,5 @@
 -- The last entry that is sought, by its place.
-use Rattle.std.proofs.Common.{◌≡◌, ℕ, zero, suc, ◌+◌, ◌<◌, Bool, true, false, cond, List, [], ◌∷◌, length, get_or, IfSome, IsSomeAnd, Some, None, Option, refl, sym, ◌∙◌, add-zero, zero-add, add-one, arith}
+use Rattle.std.proofs.Common.{◌≡◌, ℕ, zero, suc, ◌+◌, ◌<◌, Bool, true, false, cond, List, [], ◌∷◌, length, get_or, IfSome, IsSomeAnd, Some, None, Option, refl, sym, add-zero, zero-add, add-one, arith}
 use Rattle.std.specs.Option.{option_map}
 use Rattle.entries.specs.declared.entry.Entry.{Entry}
 use Rattle.entries.specs.declared.entry.Sought.{Sought}

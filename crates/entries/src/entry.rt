@@ -18,7 +18,7 @@ pub struct Entry<V> {
 }
 
 // What an entry is sought by.
-#[derive(Clone, Copy, PartialEq, Eq)]
+#[derive(Clone, Copy)]
 pub enum Sought {
     Star(u16),
     Zone(u8),

@@ -10,7 +10,7 @@ pub fn front<V: RecordKind>(log: &[Entry<V>], n: u16) -> &[Entry<V>]
     ensures value { result.now ≡ take n log.now }
     ensures len { length result.now ≡ n }
 {
-    &log[0..n as usize]
+    &log[..n as usize]
 }
 
 // Whether the log holds the first n entries of the leader's.
@@ -32,9 +32,7 @@ pub fn last_term<V: RecordKind>(log: &[Entry<V>]) -> u16
 pub fn is_newer<V: RecordKind>(a: &[Entry<V>], b: &[Entry<V>]) -> bool
     ensures { result ≡ newer a.now b.now }
 {
-    let s = last_term(a);
-    let t = last_term(b);
-    (t < s) | ((s == t) & (b.len() < a.len()))
+    (last_term(a), a.len()) > (last_term(b), b.len())
 }
 
 // The first place of the leader's log where the other ends or has another term, else its length.

@@ -11,8 +11,8 @@ fn is_sought<V: RecordKind>(e: &Entry<V>, sought: Sought) -> bool
 {
     match sought {
         Sought::Star(star) => e.star == star,
-        Sought::Zone(zone) => (e.star != 0) & (e.star / 4096 == zone as u16),
-        Sought::Request { client, number } => (e.client == client) & (e.number == number),
+        Sought::Zone(zone) => e.star != 0 && e.star / 4096 == u16::from(zone),
+        Sought::Request { client, number } => e.client == client && e.number == number,
         Sought::Term(term) => e.term == term,
     }
 }
@@ -49,5 +49,7 @@ pub fn zone_stamp<V: RecordKind>(log: &[Entry<V>], zone: u8) -> Stamp
     requires { length log.now ≤ 4096 }
     ensures { result ≡ zone_stamp zone log.now }
 {
-    last_of(log, Sought::Zone(zone)).map_or(Stamp::default(), |(_, e)| e.stamp)
+    last_of(log, Sought::Zone(zone))
+        .map(|(_, e)| e.stamp)
+        .unwrap_or_default()
 }

@@ -1,4 +1,4 @@
-use Rattle.std.proofs.Common.{◌-◌, ◌≡◌, List, false, length, get_or, sym, ap, ◌∙◌, rules, tests, arith}
+use Rattle.std.proofs.Common.{◌-◌, ◌≡◌, false, length, get_or, ap, ◌∙◌, rules, tests, arith}
 use Rattle.std.proofs.iter.runs.Made.{chains}
 use Rattle.entries.specs.Search.{matches, last_of}
 use Rattle.entries.proofs.Found.{last_is, last_none, given, given_one}
