@@ -1,5 +1,5 @@
 -- Entries and runs of entries that the tests call alike are one.
-use Rattle.std.proofs.Common.{◌≡◌, ℕ, Bool, true, eqb, List, [], ◌∷◌, refl, ap₂, arith}
+use Rattle.std.proofs.Common.{◌≡◌, ℕ, Bool, true, ◌&&◌, eqb, List, [], ◌∷◌, refl, ap₂, arith}
 use Rattle.std.proofs.lemmas.Bool.{and_parts, eqb-true}
 use Rattle.entries.specs.declared.entry.Entry.{Entry}
 use Rattle.entries.specs.Compare.{content_alike, entry_alike, all_alike}
@@ -15,14 +15,14 @@ module _ {V : Type 0} where
     pub entries_one : (a b : Entry V) → entry_alike alike a b ≡ true → a ≡ b
     entries_one a b e =
         let w = and_parts (eqb a.term b.term) (content_alike alike a b) e in
-        let v = and_parts _ (alike a.value b.value) w.1 in
-        let r = and_parts _ (eqb a.star b.star) v.0 in
-        let n = and_parts _ (eqb a.number b.number) r.0 in
-        let c = and_parts _ (eqb a.client b.client) n.0 in
+        let c = and_parts (eqb a.stamp.session b.stamp.session && eqb a.stamp.number b.stamp.number) _ w.1 in
         let m = and_parts (eqb a.stamp.session b.stamp.session) (eqb a.stamp.number b.stamp.number) c.0 in
+        let n = and_parts (eqb a.client b.client) _ c.1 in
+        let r = and_parts (eqb a.number b.number) _ n.1 in
+        let v = and_parts (eqb a.star b.star) (alike a.value b.value) r.1 in
         same_parts a b (eqb-true a.term b.term w.0) (eqb-true a.stamp.session b.stamp.session m.0)
-        (eqb-true a.stamp.number b.stamp.number m.1) (eqb-true a.client b.client c.1)
-        (eqb-true a.number b.number n.1) (eqb-true a.star b.star r.1) ((tells a.value b.value).0 v.1)
+        (eqb-true a.stamp.number b.stamp.number m.1) (eqb-true a.client b.client n.0)
+        (eqb-true a.number b.number r.0) (eqb-true a.star b.star v.0) ((tells a.value b.value).0 v.1)
 
     pub all_one : (l m : List (Entry V)) → all_alike alike l m ≡ true → l ≡ m
     all_one [] [] e = refl
