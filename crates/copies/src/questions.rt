@@ -74,7 +74,7 @@ impl Logs {
         requires copy { a < self.now.copies }
         requires other { r < self.now.copies }
         requires within { n ≤ slice_index self.now.lengths a }
-        ensures { result ≡ holds_of V.RecordKind.alike (view_of self.now entries.now) a n r }
+        ensures { result ≡ holds_of V.PartialEq.eq (view_of self.now entries.now) a n r }
     {
         entries::holds(self.log(entries, a), self.log(entries, r), n)
     }
@@ -84,7 +84,7 @@ impl Logs {
         requires shape { Shaped self.now (length entries.now) }
         requires copy { leader < self.now.copies }
         requires within { n ≤ slice_index self.now.lengths leader }
-        ensures { result ≡ holders V.RecordKind.alike (view_of self.now entries.now) leader n }
+        ensures { result ≡ holders V.PartialEq.eq (view_of self.now entries.now) leader n }
     {
         let mut found = 0u8;
         for r in 0..self.copies {
@@ -99,7 +99,7 @@ impl Logs {
     pub fn holds_committed<V: RecordKind>(&self, entries: &[Entry<V>], r: u8, n: u16) -> bool
         requires shape { Shaped self.now (length entries.now) }
         requires copy { r < self.now.copies }
-        ensures { result ≡ holds_committed V.RecordKind.alike (view_of self.now entries.now) r n }
+        ensures { result ≡ holds_committed V.PartialEq.eq (view_of self.now entries.now) r n }
     {
         let best = self.best_known();
         if n > self.known[best as usize] {

@@ -122,7 +122,7 @@ pub fn reply<V: RecordKind>(
     i: u32,
 ) -> Result<Message<V>, LeaderFault>
     requires shape { Shaped logs.now (length entries.now) }
-    ensures { result ≡ reply_step V.RecordKind.blank_value V.RecordKind.alike logs.now lead.now entries.now i }
+    ensures { result ≡ reply_step V.RecordKind.blank_value V.PartialEq.eq logs.now lead.now entries.now i }
 {
     let leader = raft_log::leader_of(logs)?;
     let e = raft_log::entry_known(logs, entries, leader, i)?;

@@ -84,7 +84,7 @@ pub fn open_session<V: RecordKind>(
     entries: &[Entry<V>],
 ) -> Result<Snapshot, LeaderFault>
     requires shape { Shaped logs.now (length entries.now) }
-    ensures { (lead.new, result) ≡ open_step V.RecordKind.alike logs.now lead.old entries.now }
+    ensures { (lead.new, result) ≡ open_step V.PartialEq.eq logs.now lead.old entries.now }
 {
     let leader = raft_log::leader_of(logs)?;
     if lead.part == 65535 {

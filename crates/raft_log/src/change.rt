@@ -123,7 +123,7 @@ pub fn rise_step<V: RecordKind>(
 ) -> Result<(), LogFault>
     requires shape { Shaped logs.old (length entries.now) }
     requires copy { r < logs.old.copies }
-    ensures { (logs.new, result) ≡ rise_step V.RecordKind.alike logs.old entries.now r n }
+    ensures { (logs.new, result) ≡ rise_step V.PartialEq.eq logs.old entries.now r n }
 {
     if !logs.holds_committed(entries, r, n) {
         return Err(LogFault::NotCommitted);

@@ -12,7 +12,7 @@ pub fn open<V: RecordKind, R: VoteRule>(
     s: &mut Service<R>,
     entries: &[Entry<V>],
 ) -> Result<u32, ServiceFault>
-    ensures { (s.new, result) ≡ open_step V.RecordKind.alike s.old entries.now }
+    ensures { (s.new, result) ≡ open_step V.PartialEq.eq s.old entries.now }
 {
     if !s.logs.fits(entries.len()) {
         return Err(ServiceFault::Memory);
@@ -28,7 +28,7 @@ fn fresh_reply<V: RecordKind, R: VoteRule>(
     entries: &[Entry<V>],
     i: u32,
 ) -> Result<Message<V>, ServiceFault>
-    ensures { result ≡ fresh_reply V.RecordKind.blank_value V.RecordKind.alike s.now entries.now i }
+    ensures { result ≡ fresh_reply V.RecordKind.blank_value V.PartialEq.eq s.now entries.now i }
 {
     if !s.logs.fits(entries.len()) {
         return Err(ServiceFault::Memory);
@@ -44,7 +44,7 @@ pub fn reply<V: RecordKind, R: VoteRule>(
     messages: &mut [Message<V>],
     i: u32,
 ) -> Result<u32, ServiceFault>
-    ensures { (s.new, messages.new, result) ≡ reply_step V.RecordKind.blank_value V.RecordKind.alike s.old entries.now messages.old i }
+    ensures { (s.new, messages.new, result) ≡ reply_step V.RecordKind.blank_value V.PartialEq.eq s.old entries.now messages.old i }
 {
     if !s.table.fits(messages.len()) {
         return Err(ServiceFault::Memory);

@@ -5,4 +5,4 @@ use Rattle.copies.specs.Questions.{holds_of}
 use Rattle.copies.proofs.logs.Logs.holders.Given as goal
 
 abbrev pub invariant-loop-r : goal.invariant-loop-r
-invariant-loop-r g l = (l.found ≡ mask (holds_of g.V.RecordKind.alike (view_of l.self l.entries) l.leader l.n) l.r) × (l.found < 2 ^ l.r)
+invariant-loop-r g l = (l.found ≡ mask (holds_of g.V.PartialEq.eq (view_of l.self l.entries) l.leader l.n) l.r) × (l.found < 2 ^ l.r)
