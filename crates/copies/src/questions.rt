@@ -80,7 +80,7 @@ impl<'a, V: RecordKind> Replicas<'a, V> {
         requires copy { a < self.now.logs.now.copies }
         requires other { r < self.now.logs.now.copies }
         requires within { n ≤ length_of self.now.logs.now a }
-        ensures { result ≡ holds_of V.RecordKind.alike (seen self.now) a n r }
+        ensures { result ≡ holds_of V.PartialEq.eq (seen self.now) a n r }
     {
         entries::holds(self.log(a), self.log(r), n)
     }
@@ -89,7 +89,7 @@ impl<'a, V: RecordKind> Replicas<'a, V> {
     pub fn holders(&self, leader: u8, n: u16) -> u8
         requires copy { leader < self.now.logs.now.copies }
         requires within { n ≤ length_of self.now.logs.now leader }
-        ensures { result ≡ holders V.RecordKind.alike (seen self.now) leader n }
+        ensures { result ≡ holders V.PartialEq.eq (seen self.now) leader n }
     {
         let mut found = 0u8;
         for r in 0..self.logs.copies {
@@ -103,7 +103,7 @@ impl<'a, V: RecordKind> Replicas<'a, V> {
     // Whether copy r's first n entries are the committed log's.
     pub fn holds_committed(&self, r: u8, n: u16) -> bool
         requires { r < self.now.logs.now.copies }
-        ensures { result ≡ holds_committed V.RecordKind.alike (seen self.now) r n }
+        ensures { result ≡ holds_committed V.PartialEq.eq (seen self.now) r n }
     {
         let best = self.logs.best_known();
         if n > self.logs.counts[best as usize].known {

@@ -49,7 +49,7 @@ pub fn copy_read<V: RecordKind, R: VoteRule>(
     index: u16,
 ) -> Result<Reaction<V>, ServiceFault>
     requires shape { Shaped s.old.logs (length entries.now) }
-    ensures { (s.new, result) ≡ at_copy_read V.RecordKind.alike s.old entries.now m.now copy index }
+    ensures { (s.new, result) ≡ at_copy_read V.PartialEq.eq s.old entries.now m.now copy index }
 {
     if copy >= s.logs.copies {
         return Err(ServiceFault::Leader(LeaderFault::Log(LogFault::NotCommitted)));

@@ -28,7 +28,7 @@ fn react_to<V: RecordKind, R: VoteRule>(
     m: &Message<V>,
 ) -> Result<Reaction<V>, ServiceFault>
     requires shape { Shaped s.old.logs (length entries.old) }
-    ensures value { (s.new, entries.new, result) ≡ reaction_to V.RecordKind.blank_value V.RecordKind.lawful V.RecordKind.alike s.old entries.old m.now m.now.body }
+    ensures value { (s.new, entries.new, result) ≡ reaction_to V.RecordKind.blank_value V.RecordKind.lawful V.PartialEq.eq s.old entries.old m.now m.now.body }
     ensures table { s.new.table ≡ s.old.table }
 {
     match m.body {
@@ -59,7 +59,7 @@ pub fn deliver<V: RecordKind, R: VoteRule>(
     messages: &mut [Message<V>],
     place: u32,
 ) -> Result<Effect<V>, ServiceFault>
-    ensures { (s.new, entries.new, messages.new, result) ≡ deliver_step V.RecordKind.blank_value V.RecordKind.lawful V.RecordKind.alike s.old entries.old messages.old place }
+    ensures { (s.new, entries.new, messages.new, result) ≡ deliver_step V.RecordKind.blank_value V.RecordKind.lawful V.PartialEq.eq s.old entries.old messages.old place }
 {
     s.check_entries(entries)?;
     s.check_messages(messages)?;

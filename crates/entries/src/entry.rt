@@ -1,12 +1,13 @@
 // A stamp says which correction of which session wrote an entry. It is kept as a pair everywhere.
-#[derive(Clone, Copy, Default, PartialEq, Eq)]
+// No stamp is the default, zeros.
+#[derive(Clone, Copy, PartialEq, Eq, Default)]
 pub struct Stamp {
     pub session: u32,
     pub number: u16,
 }
 
 // One entry of a log. An opening entry has star 0 and the blank value.
-#[derive(Clone, Copy)]
+#[derive(Clone, Copy, PartialEq, Eq)]
 pub struct Entry<V> {
     pub term: u16,
     pub stamp: Stamp,

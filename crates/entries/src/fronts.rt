@@ -1,7 +1,6 @@
 ghost use Rattle.std.specs.Prelude.{◌≡◌, ℕ, ◌<◌, ◌≤◌, length, take};
 ghost use Rattle.entries.specs.Fronts.{holds_first, last_term, newer, gap};
 
-use crate::compare::same_entries;
 use crate::entry::Entry;
 use kinds::RecordKind;
 
@@ -11,62 +10,29 @@ pub fn front<V: RecordKind>(log: &[Entry<V>], n: u16) -> &[Entry<V>]
     ensures value { result.now ≡ take n log.now }
     ensures len { length result.now ≡ n }
 {
-    &log[0..n as usize]
+    &log[..n as usize]
 }
 
 // Whether the log holds the first n entries of the leader's.
 pub fn holds<V: RecordKind>(led: &[Entry<V>], log: &[Entry<V>], n: u16) -> bool
     requires { n ≤ length led.now }
-    ensures { result ≡ holds_first V.RecordKind.alike n led.now log.now }
+    ensures { result ≡ holds_first V.PartialEq.eq n led.now log.now }
 {
-    if (n as usize) > log.len() {
-        return false;
-    }
-    same_entries(front(log, n), front(led, n))
-}
-
-// The term of the entry that stands last among the first n, 0 for none.
-fn ending_term<V: RecordKind>(log: &[Entry<V>], n: usize) -> u16
-    requires { n ≡ length log.now }
-    ensures { result ≡ last_term log.now }
-{
-    if n == 0 {
-        return 0;
-    }
-    log[n - 1].term
+    n as usize <= log.len() && front(log, n) == front(led, n)
 }
 
 // The term of the last entry, 0 of an empty log.
 pub fn last_term<V: RecordKind>(log: &[Entry<V>]) -> u16
     ensures { result ≡ last_term log.now }
 {
-    ending_term(log, log.len())
+    log.last().map_or(0, |e| e.term)
 }
 
 // Whether the first log is newer: its last term is greater, or equal and it is longer.
 pub fn is_newer<V: RecordKind>(a: &[Entry<V>], b: &[Entry<V>]) -> bool
     ensures { result ≡ newer a.now b.now }
 {
-    let s = last_term(a);
-    let t = last_term(b);
-    (t < s) | ((s == t) & (b.len() < a.len()))
-}
-
-// Goes along the leader's log up to the place where the other ends or has another term.
-fn parting<V: RecordKind>(led: &[Entry<V>], log: &[Entry<V>]) -> usize
-    ensures value { result ≡ gap led.now log.now }
-    ensures bound { result ≤ length led.now }
-    ensures within { result ≤ length log.now }
-{
-    for i in 0..led.len() {
-        if i >= log.len() {
-            return i;
-        }
-        if led[i].term != log[i].term {
-            return i;
-        }
-    }
-    led.len()
+    (last_term(a), a.len()) > (last_term(b), b.len())
 }
 
 // The first place of the leader's log where the other ends or has another term, else its length.
@@ -75,5 +41,8 @@ pub fn first_gap<V: RecordKind>(led: &[Entry<V>], log: &[Entry<V>]) -> usize
     ensures bound { result ≤ length led.now }
     ensures within { result ≤ length log.now }
 {
-    parting(led, log)
+    led.iter()
+        .zip(log)
+        .take_while(|(a, b)| a.term == b.term)
+        .count()
 }

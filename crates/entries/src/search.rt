@@ -1,5 +1,6 @@
 ghost use Rattle.std.specs.Prelude.{◌≡◌, ℕ, ◌≤◌, length, IfSome};
-ghost use Rattle.entries.specs.Search.{matches, last_of, index_of, last_value, zone_stamp};
+ghost use Rattle.std.specs.Option.{option_map};
+ghost use Rattle.entries.specs.Search.{matches, last_of, last_value, zone_stamp};
 
 use crate::entry::{Entry, Sought, Stamp};
 use kinds::RecordKind;
@@ -10,8 +11,8 @@ fn is_sought<V: RecordKind>(e: &Entry<V>, sought: Sought) -> bool
 {
     match sought {
         Sought::Star(star) => e.star == star,
-        Sought::Zone(zone) => (e.star != 0) & (e.star / 4096 == zone as u16),
-        Sought::Request { client, number } => (e.client == client) & (e.number == number),
+        Sought::Zone(zone) => e.star != 0 && e.star / 4096 == u16::from(zone),
+        Sought::Request { client, number } => e.client == client && e.number == number,
         Sought::Term(term) => e.term == term,
     }
 }
@@ -22,26 +23,17 @@ pub fn last_of<V: RecordKind>(log: &[Entry<V>], sought: Sought) -> Option<(u16, 
     ensures value { result ≡ last_of sought log.now }
     ensures bound { IfSome result (λ p. (1 ≤ p.0) × (p.0 ≤ length log.now)) }
 {
-    let mut found = None;
-    for i in 0..log.len() {
-        let e = log[i];
-        if is_sought(&e, sought) {
-            found = Some((i as u16 + 1, e));
-        }
-    }
-    found
+    let i = log.iter().rposition(|e| is_sought(e, sought))?;
+    Some((i as u16 + 1, log[i]))
 }
 
-// The index of the last entry that is sought, counted from 1, or 0.
-pub fn last_index<V: RecordKind>(log: &[Entry<V>], sought: Sought) -> u16
+// The index of the last entry that is sought, counted from 1.
+pub fn last_index<V: RecordKind>(log: &[Entry<V>], sought: Sought) -> Option<u16>
     requires { length log.now ≤ 4096 }
-    ensures value { result ≡ index_of (last_of sought log.now) }
-    ensures bound { result ≤ length log.now }
+    ensures value { result ≡ option_map (λ p. p.0) (last_of sought log.now) }
+    ensures bound { IfSome result (λ i. (1 ≤ i) × (i ≤ length log.now)) }
 {
-    match last_of(log, sought) {
-        Some((i, _)) => i,
-        None => 0,
-    }
+    last_of(log, sought).map(|(i, _)| i)
 }
 
 // The value of the star's last entry.
@@ -49,10 +41,7 @@ pub fn last_value<V: RecordKind>(log: &[Entry<V>], star: u16) -> Option<V>
     requires { length log.now ≤ 4096 }
     ensures { result ≡ last_value star log.now }
 {
-    match last_of(log, Sought::Star(star)) {
-        Some((_, e)) => Some(e.value),
-        None => None,
-    }
+    last_of(log, Sought::Star(star)).map(|(_, e)| e.value)
 }
 
 // The stamp of the zone's last entry, or zeros.
@@ -60,11 +49,7 @@ pub fn zone_stamp<V: RecordKind>(log: &[Entry<V>], zone: u8) -> Stamp
     requires { length log.now ≤ 4096 }
     ensures { result ≡ zone_stamp zone log.now }
 {
-    match last_of(log, Sought::Zone(zone)) {
-        Some((_, e)) => e.stamp,
-        None => Stamp {
-            session: 0,
-            number: 0,
-        },
-    }
+    last_of(log, Sought::Zone(zone))
+        .map(|(_, e)| e.stamp)
+        .unwrap_or_default()
 }

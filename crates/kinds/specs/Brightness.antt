@@ -1,11 +1,12 @@
 -- How bright a star is: two magnitudes, and the year that they hold for.
 use Rattle.std.specs.Prelude.{ℕ, ◌^◌, ◌<◌, Bool, true, false, cond, not, ◌&&◌, ◌||◌, T, List, [], ◌∷◌, ◌++◌, pos, negsuc, Some, None, Option, ◌==◌, slice_index, Float}
 use Rattle.std.specs.Bool.{beq}
+use Rattle.std.specs.Ordering.{int_eq}
 use Rattle.std.specs.Float.Ieee as Ieee
 use Rattle.std.specs.Float.{nan, inf, fin, binary32}
 use Rattle.kinds.specs.declared.brightness.Brightness.{Brightness}
 use Rattle.kinds.specs.Bytes.{le16, le32, at16, at32}
-use Rattle.kinds.specs.Numbers.{same_int, lawful_year}
+use Rattle.kinds.specs.Numbers.{lawful_year}
 
 -- each number of the brightness fits its type
 abbrev pub brightness_fits : Brightness → Type 0
@@ -57,7 +58,7 @@ same_magnitude (inf s) (inf t) = beq s t
 same_magnitude (inf s) (fin t n d) = false
 same_magnitude (fin s m e) nan = false
 same_magnitude (fin s m e) (inf t) = false
-same_magnitude (fin s m e) (fin t n d) = beq s t && m == n && same_int e d
+same_magnitude (fin s m e) (fin t n d) = beq s t && m == n && int_eq e d
 
 -- whether two brightnesses are one
 abbrev pub same_brightness : Brightness → Brightness → Bool

@@ -1,23 +1,18 @@
 -- Brightnesses and their bytes.
-use Rattle.std.specs.Prelude.{◌≡◌, ℕ, ◌+◌, ◌*◌, ◌/◌, ◌%◌, ◌^◌, ◌<◌, Bool, true, false, not, ◌&&◌, ◌||◌, T, List, map, Some, ◌==◌, slice_index, Float}
+use Rattle.std.specs.Prelude.{◌≡◌, ℕ, Bool, true, false, not, ◌&&◌, ◌||◌, T, List, map, Some, ◌==◌, slice_index, Float}
 use Rattle.std.proofs.Common.{sym, ap, subst, ◌∙◌, arith}
+use Rattle.std.proofs.lemmas.Nat.{from_le_bytes-to_le_bytes_2, from_le_bytes-to_le_bytes_4}
 use Rattle.std.specs.Float.Ieee as Ieee
 use Rattle.std.specs.Float.{binary32}
 use Rattle.std.specs.Float.Ieee.Fits.{and_i, and_l, and_r}
 use Rattle.std.specs.Float.Ieee.Bits.{is_false, of_bits-fits, of_bits-to_bits, to_bits-lt, to_bits-of_bits, nan_bits_is}
 use Rattle.std.specs.List.{range_with_len}
 use Rattle.std.proofs.lemmas.Bool.Decides.{nat_tests}
+use Rattle.std.proofs.lemmas.Option.{cond_some}
 use Rattle.kinds.specs.declared.brightness.Brightness.{Brightness}
 use Rattle.kinds.specs.Bytes.{Sixteen, at32}
 use Rattle.kinds.specs.Brightness.{brightness_fits, well_formed_brightness, brightness_bytes, brightness_parsed, brightness_at, brightness_ends_in_zeros, has_nan}
-use Rattle.kinds.specs.Codes.{le32_of, le16_of, below_32, below_16, cond_some, sixteen}
-
--- the bytes of a number, read again
-again32 : (n : ℕ) → n < 2 ^ 32 → n % 256 + n / 256 % 256 * 256 + n / 65536 % 256 * 65536 + n / 16777216 % 256 * 16777216 ≡ n
-again32 n h = grind arith
-
-again16 : (n : ℕ) → n < 2 ^ 16 → n % 256 + n / 256 % 256 * 256 ≡ n
-again16 n h = omega arith
+use Rattle.kinds.specs.Codes.{le32_of, le16_of, below_32, below_16, sixteen}
 
 no_nan_bits : (x : Float) → T (Ieee.fits binary32 x) → T (not (Ieee.is_nan x)) → Ieee.nan_bits binary32 (Ieee.to_bits binary32 x) ≡ false
 no_nan_bits x f n = nan_bits_is binary32 (Ieee.to_bits binary32 x) ∙ ap Ieee.is_nan (of_bits-to_bits binary32 x f) ∙ is_false (Ieee.is_nan x) n
@@ -26,9 +21,9 @@ pub brightness_read : (v : Brightness) → brightness_fits v → T (well_formed_
 brightness_read v h w =
     let nv = and_l (not (Ieee.is_nan v.visual)) (not (Ieee.is_nan v.blue)) w in
     let nb = and_r (not (Ieee.is_nan v.visual)) (not (Ieee.is_nan v.blue)) w in
-    let a = again32 (Ieee.to_bits binary32 v.visual) (to_bits-lt binary32 v.visual h.0) in
-    let b = again32 (Ieee.to_bits binary32 v.blue) (to_bits-lt binary32 v.blue h.1) in
-    let y = again16 v.year h.2 in
+    let a = from_le_bytes-to_le_bytes_4 (Ieee.to_bits binary32 v.visual) (to_bits-lt binary32 v.visual h.0) in
+    let b = from_le_bytes-to_le_bytes_4 (Ieee.to_bits binary32 v.blue) (to_bits-lt binary32 v.blue h.1) in
+    let y = from_le_bytes-to_le_bytes_2 v.year h.2 in
     rw (a, b, y, no_nan_bits v.visual h.0 nv, no_nan_bits v.blue h.1 nb, of_bits-to_bits binary32 v.visual h.0, of_bits-to_bits binary32 v.blue h.1)
 
 -- what the tests say of bytes that are read

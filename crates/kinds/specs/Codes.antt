@@ -1,5 +1,5 @@
 -- Numbers to bytes and back.
-use Rattle.std.specs.Prelude.{◌≡◌, ℕ, ◌+◌, ◌*◌, ◌^◌, ◌<◌, Bool, true, false, cond, List, [], ◌∷◌, map, length, Some, None, slice_index, refl}
+use Rattle.std.specs.Prelude.{◌≡◌, ℕ, ◌+◌, ◌*◌, ◌^◌, ◌<◌, List, [], ◌∷◌, map, length, slice_index, refl}
 use Rattle.std.proofs.Common.{arith}
 use Rattle.std.specs.List.{range_with_len}
 use Rattle.std.proofs.lemmas.List.FromFn.{fill_by_all}
@@ -18,11 +18,6 @@ below_32 p q r s hp hq hr hs = omega arith
 
 pub below_16 : (p q : ℕ) → p < 256 → q < 256 → p + q * 256 < 2 ^ 16
 below_16 p q hp hq = omega arith
-
--- what an option guarded by a test holds
-pub cond_some : {X : Type 0} (t : Bool) (x v : X) → cond t (Some x) None ≡ Some v → (t ≡ true) × (x ≡ v)
-cond_some true x v e = (refl, cc)
-cond_some false x v e = let z : ◌≡◌ {A = ℕ} 0 1 = cc in absurd (omega arith)
 
 -- a list of sixteen is the list of its places
 pub sixteen : (b : List ℕ) → length b ≡ 16 → b ≡ map (λ k. slice_index b k) (range_with_len 0 16)

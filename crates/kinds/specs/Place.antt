@@ -2,9 +2,10 @@
 use Rattle.std.specs.Prelude.{ℕ, ◌^◌, ◌<◌, Bool, cond, ◌&&◌, List, [], ◌∷◌, ◌++◌, ℤ, pos, negsuc, Some, None, Option, FitsSigned, ◌==◌, int_le, nat_le, slice_index}
 use Rattle.std.proofs.Common.{to_z, of_z}
 use Rattle.std.specs.Int.{w16, w32}
+use Rattle.std.specs.Ordering.{int_eq}
 use Rattle.kinds.specs.declared.place.Place.{Place}
 use Rattle.kinds.specs.Bytes.{le16, le32, at16, at32}
-use Rattle.kinds.specs.Numbers.{same_int, lawful_year}
+use Rattle.kinds.specs.Numbers.{lawful_year}
 
 -- each number of the place fits its type
 abbrev pub place_fits : Place → Type 0
@@ -46,4 +47,6 @@ blank_place = record { ascension = 0; declination = pos 0; motion_ra = pos 0; mo
 
 -- whether two places are one
 abbrev pub same_place : Place → Place → Bool
-same_place p q = p.ascension == q.ascension && same_int p.declination q.declination && same_int p.motion_ra q.motion_ra && same_int p.motion_dec q.motion_dec && p.year == q.year
+same_place p q =
+    p.ascension == q.ascension
+    && (int_eq p.declination q.declination && (int_eq p.motion_ra q.motion_ra && (int_eq p.motion_dec q.motion_dec && p.year == q.year)))

@@ -6,10 +6,11 @@ use Rattle.std.specs.Int.{w16, w32}
 use Rattle.std.specs.List.{range_with_len}
 use Rattle.std.proofs.lemmas.Int.{of_z-to_z}
 use Rattle.std.proofs.lemmas.Bool.Decides.{nat_tests}
+use Rattle.std.proofs.lemmas.Option.{cond_some}
 use Rattle.kinds.specs.declared.place.Place.{Place}
 use Rattle.kinds.specs.Bytes.{Sixteen, at16, at32}
 use Rattle.kinds.specs.Place.{place_fits, place_bytes, place_parsed, place_at, place_ends_in_zeros}
-use Rattle.kinds.specs.Codes.{le32_of, le16_of, below_32, below_16, cond_some, sixteen}
+use Rattle.kinds.specs.Codes.{le32_of, le16_of, below_32, below_16, sixteen}
 
 zeros : (a b : ℕ) → (a == 0 && b == 0) ≡ true → (a ≡ 0) × (b ≡ 0)
 zeros a b e = grind (arith, nat_tests)

@@ -1,17 +1,13 @@
 -- The tests that say whether two magnitudes, and two brightnesses, are one.
-use Rattle.std.specs.Prelude.{◌≡◌, ℕ, Bool, true, false, ◌&&◌, T, ℤ, Decides, ◌==◌, refl, Float}
-use Rattle.std.proofs.Common.{sym, ap, ◌∙◌, arith}
-use Rattle.std.specs.Bool.{beq}
+use Rattle.std.specs.Prelude.{◌≡◌, ℕ, Bool, true, T, ℤ, Decides, ◌==◌, refl, Float}
+use Rattle.std.proofs.Common.{sym, ap, ◌∙◌}
+use Rattle.std.specs.Cmp.{booleans_Decides}
 use Rattle.std.specs.Float.Ieee as Ieee
 use Rattle.std.specs.Float.{nan, inf, fin, binary32}
 use Rattle.std.specs.Float.Ieee.Bits.{of_bits-to_bits}
-use Rattle.std.proofs.lemmas.Bool.Decides.{Decides-and, Decides-like, Decides-eqb, same_from_decides}
+use Rattle.std.proofs.lemmas.Bool.Decides.{Decides-and, Decides-like, Decides-eqb, Decides-int_eq, same_from_decides}
 use Rattle.kinds.specs.declared.brightness.Brightness.{Brightness}
 use Rattle.kinds.specs.Brightness.{same_magnitude, same_brightness}
-use Rattle.kinds.specs.SamePlace.{decides_same_int}
-
-decides_beq : (s t : Bool) → Decides (beq s t) (s ≡ t)
-decides_beq s t = (λ h. grind arith, λ e. grind arith)
 
 fin_parts : (s t : Bool) (m n : ℕ) (e d : ℤ) → (s ≡ t) × (m ≡ n) × (e ≡ d) → fin s m e ≡ fin t n d
 fin_parts s t m n e d h = cc
@@ -21,21 +17,17 @@ decides_magnitude nan nan = (λ _. refl, λ _. refl)
 decides_magnitude nan (inf t) = (λ h. cc, λ e. cc)
 decides_magnitude nan (fin t n d) = (λ h. cc, λ e. cc)
 decides_magnitude (inf s) nan = (λ h. cc, λ e. cc)
-decides_magnitude (inf s) (inf t) = Decides-like _ (λ e. ap inf e) (λ e. cc) (decides_beq s t)
+decides_magnitude (inf s) (inf t) = Decides-like _ (λ e. ap inf e) (λ e. cc) (booleans_Decides s t)
 decides_magnitude (inf s) (fin t n d) = (λ h. cc, λ e. cc)
 decides_magnitude (fin s m e) nan = (λ h. cc, λ e. cc)
 decides_magnitude (fin s m e) (inf t) = (λ h. cc, λ e. cc)
 decides_magnitude (fin s m e) (fin t n d) =
     Decides-like _ (λ h. fin_parts s t m n e d (h.0.0, h.0.1, h.1)) (λ k. ((cc, cc), cc))
-    (Decides-and _ _ (Decides-and _ _ (decides_beq s t) (Decides-eqb m n)) (decides_same_int e d))
-
-brightness_of : Float → Float → ℕ → Brightness
-brightness_of a b c = record { visual = a; blue = b; year = c }
+    (Decides-and _ _ (Decides-and _ _ (booleans_Decides s t) (Decides-eqb m n)) (Decides-int_eq e d))
 
 -- brightnesses with the same numbers are one
 same_parts : (p q : Brightness) → p.visual ≡ q.visual → p.blue ≡ q.blue → p.year ≡ q.year → p ≡ q
-unfolding brightness_of
-same_parts p q a b c = let f : brightness_of p.visual p.blue p.year ≡ brightness_of q.visual q.blue q.year = rw (a, b, c) in f
+same_parts p q a b c = λ i. record { visual = a i; blue = b i; year = c i }
 
 pub decides_brightness : (p q : Brightness) → Decides (same_brightness p q) (p ≡ q)
 decides_brightness p q =
@@ -51,25 +43,11 @@ by_bits x y f g =
     (Decides-like _ (λ e. sym (of_bits-to_bits binary32 x f) ∙ ap (Ieee.of_bits binary32) e ∙ of_bits-to_bits binary32 y g) (λ e. ap (Ieee.to_bits binary32) e) (Decides-eqb (Ieee.to_bits binary32 x) (Ieee.to_bits binary32 y)))
     (decides_magnitude x y)
 
-nans : (x y : Float) → (Ieee.is_nan x ≡ true) → (Ieee.is_nan x && Ieee.is_nan y) ≡ same_magnitude x y
-unfolding Ieee.is_nan
-nans nan nan h = refl
-nans nan (inf t) h = refl
-nans nan (fin t n d) h = refl
-nans (inf s) y h = cc
-nans (fin s m e) y h = cc
-
-nans_right : (x y : Float) → (Ieee.is_nan y ≡ true) → (Ieee.is_nan x && Ieee.is_nan y) ≡ same_magnitude x y
-unfolding Ieee.is_nan
-nans_right nan nan h = refl
-nans_right (inf s) nan h = refl
-nans_right (fin s m e) nan h = refl
-nans_right x (inf t) h = cc
-nans_right x (fin t n d) h = cc
-
 -- a NaN is the same as a NaN alone
 pub nan_first : (x y : Float) → true ≡ Ieee.is_nan x → Ieee.is_nan y ≡ same_magnitude x y
-nan_first x y h = let e = nans x y (sym h) in rw (← h) at e
-
-pub nan_second : (x y : Float) → false ≡ Ieee.is_nan x → true ≡ Ieee.is_nan y → false ≡ same_magnitude x y
-nan_second x y h k = let e = nans_right x y (sym k) in rw (← h) at e
+unfolding Ieee.is_nan
+nan_first nan nan h = refl
+nan_first nan (inf t) h = refl
+nan_first nan (fin t n d) h = refl
+nan_first (inf s) y h = cc
+nan_first (fin s m e) y h = cc

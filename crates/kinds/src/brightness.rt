@@ -1,11 +1,18 @@
 ghost use Rattle.std.specs.Prelude.{◌≡◌, pos, negsuc};
 ghost use Rattle.std.specs.Float.Ieee.{is_nan, nan_bits, of_bits, of_int, of_fields, odd};
 ghost use Rattle.std.specs.Float.{binary32};
+ghost use Rattle.std.specs.Cmp.{decided, partial_equiv_from_equiv};
 ghost use Rattle.kinds.specs.Brightness.{brightness_fits, well_formed_brightness, lawful_brightness, brightness_bytes, brightness_parsed, blank_brightness, same_brightness, lawful_magnitude, same_magnitude};
 ghost use Rattle.kinds.specs.BrightnessLaws.{brightness_read, brightness_written};
 ghost use Rattle.kinds.specs.SameMagnitude.{decides_brightness};
 
 use crate::kind::RecordKind;
+use crate::year::lawful_year;
+
+// The brightest and the faintest lawful magnitude.
+const BRIGHTEST: f32 = -30.0;
+
+const FAINTEST: f32 = 30.0;
 
 // How bright a star is: its visual and its blue magnitude, and the year that they hold for.
 #[derive(Clone, Copy)]
@@ -22,25 +29,11 @@ fn is_nan_pattern(bits: u32) -> bool
     bits % 0x8000_0000 > 0x7f80_0000
 }
 
-// The brightest lawful magnitude.
-fn brightest() -> f32
-    ensures { result ≡ of_int binary32 (negsuc 29) }
-{
-    -30.0
-}
-
-// The faintest lawful magnitude.
-fn faintest() -> f32
-    ensures { result ≡ of_int binary32 (pos 30) }
-{
-    30.0
-}
-
 // Whether the magnitude is between the two, or one of them.
 fn lawful_magnitude(m: f32) -> bool
     ensures { result ≡ lawful_magnitude m }
 {
-    (m >= brightest()) & (m <= faintest())
+    (m >= BRIGHTEST) & (m <= FAINTEST)
 }
 
 // Whether two magnitudes are one, by the bits: `==` takes minus zero and plus zero for one value.
@@ -57,6 +50,23 @@ fn same_magnitude(a: f32, b: f32) -> bool
     a.to_bits() == b.to_bits()
 }
 
+// By the bits, and so not derived: 0.0 and -0.0 are two values, and all NaNs are one.
+impl PartialEq for Brightness {
+    ghost eq = { same_brightness };
+
+    ghost laws = { partial_equiv_from_equiv (decided same_brightness decides_brightness) };
+
+    fn eq(&self, other: &Brightness) -> bool {
+        same_magnitude(self.visual, other.visual)
+            && same_magnitude(self.blue, other.blue)
+            && self.year == other.year
+    }
+}
+
+impl Eq for Brightness {
+    ghost laws = { decided same_brightness decides_brightness };
+}
+
 impl RecordKind for Brightness {
     ghost fits = { brightness_fits };
 
@@ -70,15 +80,13 @@ impl RecordKind for Brightness {
 
     ghost blank_value = { blank_brightness };
 
-    ghost alike = { same_brightness };
-
     ghost read_back = { λ v h w. brightness_read v h w };
 
     ghost written_back = { λ b v s e. brightness_written b v s e };
 
     ghost blank_well_formed = { unfold is_nan of_bits of_fields odd in tt };
 
-    ghost alike_decides = { λ p q. decides_brightness p q };
+    ghost eq_decides = { λ p q. decides_brightness p q };
 
     // A NaN is malformed; an infinity is well formed.
     fn is_well_formed(self) -> bool {
@@ -86,10 +94,7 @@ impl RecordKind for Brightness {
     }
 
     fn is_lawful(self) -> bool {
-        lawful_magnitude(self.visual)
-            & lawful_magnitude(self.blue)
-            & (self.year >= 1900)
-            & (self.year <= 2100)
+        lawful_magnitude(self.visual) && lawful_magnitude(self.blue) && lawful_year(self.year)
     }
 
     fn to_bytes(self) -> Option<[u8; 16]> {
@@ -121,7 +126,7 @@ impl RecordKind for Brightness {
             z4,
             z5,
         ] = *b;
-        if z0 != 0 || z1 != 0 || z2 != 0 || z3 != 0 || z4 != 0 || z5 != 0 {
+        if [z0, z1, z2, z3, z4, z5] != [0; 6] {
             return None;
         }
         let visual = u32::from_le_bytes([v0, v1, v2, v3]);
@@ -142,11 +147,5 @@ impl RecordKind for Brightness {
             blue: 0.0,
             year: 0,
         }
-    }
-
-    fn same(self, other: Brightness) -> bool {
-        same_magnitude(self.visual, other.visual)
-            & same_magnitude(self.blue, other.blue)
-            & (self.year == other.year)
     }
 }

@@ -2,8 +2,9 @@ ghost use Rattle.std.specs.Prelude.{◌≡◌, ℕ, ◌<◌, Bool, T, List, if�
 ghost use Rattle.kinds.specs.Bytes.{Sixteen};
 
 // A record kind: the type of a correction's value. A kind says which values are well formed and
-// which of these are lawful, by the value alone, and has sixteen bytes for each well-formed value.
-pub trait RecordKind: Copy {
+// which of these are lawful, by the value alone, has sixteen bytes for each well-formed value, and
+// by `==` says whether two values are one.
+pub trait RecordKind: Copy + Eq {
     // Each number in the value fits its type, as in every value of a program.
     ghost fits: { Self → Type 0 };
 
@@ -18,9 +19,6 @@ pub trait RecordKind: Copy {
     ghost parsed: { List ℕ → Option Self };
 
     ghost blank_value: { Self };
-
-    // Whether two values are one.
-    ghost alike: { Self → Self → Bool };
 
     fn is_well_formed(self) -> bool
         ensures { result ≡ well_formed self };
@@ -39,9 +37,6 @@ pub trait RecordKind: Copy {
     fn blank() -> Self
         ensures { result ≡ blank_value };
 
-    fn same(self, other: Self) -> bool
-        ensures { result ≡ alike self other };
-
     // Each well-formed value is read back from its bytes.
     ghost read_back: { (v : Self) → fits v → T (well_formed v) → parsed (bytes v) ≡ Some v };
 
@@ -50,6 +45,6 @@ pub trait RecordKind: Copy {
 
     ghost blank_well_formed: { T (well_formed blank_value) };
 
-    // The kind's own test of equality decides equality.
-    ghost alike_decides: { (a b : Self) → Decides (alike a b) (a ≡ b) };
+    // `==` decides equality.
+    ghost eq_decides: { (a b : Self) → Decides (Self.eq a b) (a ≡ b) };
 }

@@ -6,6 +6,7 @@ mod brightness;
 mod kind;
 mod place;
 mod round;
+mod year;
 
 pub use brightness::Brightness;
 pub use kind::RecordKind;

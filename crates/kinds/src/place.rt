@@ -1,15 +1,15 @@
 ghost use Rattle.std.specs.Prelude.{◌≡◌, true};
-ghost use Rattle.kinds.specs.Numbers.{same_int};
-ghost use Rattle.kinds.specs.Place.{place_fits, lawful_place, place_bytes, place_parsed, blank_place, same_place};
+ghost use Rattle.kinds.specs.Place.{place_fits, lawful_declination, lawful_motion, lawful_place, place_bytes, place_parsed, blank_place};
 ghost use Rattle.kinds.specs.PlaceLaws.{place_written};
 ghost use Rattle.kinds.specs.SamePlace.{decides_place};
 ghost use Rattle.std.proofs.Common.{rules};
 
 use crate::kind::RecordKind;
+use crate::year::lawful_year;
 
 // Where a star stands: right ascension and declination, its motion in each, and the year that
 // they hold for.
-#[derive(Clone, Copy)]
+#[derive(Clone, Copy, PartialEq, Eq)]
 pub struct Place {
     pub ascension: u32,
     pub declination: i32,
@@ -18,18 +18,17 @@ pub struct Place {
     pub year: u16,
 }
 
-// Whether two angles are one.
-fn same_angle(a: i32, b: i32) -> bool
-    ensures { result ≡ same_int a b }
+// A declination from -90 to 90 degrees, in thousandths of a second of arc.
+fn lawful_declination(declination: i32) -> bool
+    ensures { result ≡ lawful_declination declination }
 {
-    a == b
+    (-324_000_000..=324_000_000).contains(&declination)
 }
 
-// Whether two motions are one.
-fn same_motion(a: i16, b: i16) -> bool
-    ensures { result ≡ same_int a b }
+fn lawful_motion(motion: i16) -> bool
+    ensures { result ≡ lawful_motion motion }
 {
-    a == b
+    (-20_000..=20_000).contains(&motion)
 }
 
 impl RecordKind for Place {
@@ -45,15 +44,13 @@ impl RecordKind for Place {
 
     ghost blank_value = { blank_place };
 
-    ghost alike = { same_place };
-
     ghost read_back = { Prim.search rules };
 
     ghost written_back = { λ b v s e. let w = place_written b v s e in (w.0, tt, w.1) };
 
     ghost blank_well_formed = { Prim.search rules };
 
-    ghost alike_decides = { λ p q. decides_place p q };
+    ghost eq_decides = { λ p q. decides_place p q };
 
     // Every place is well formed.
     fn is_well_formed(self) -> bool {
@@ -62,14 +59,10 @@ impl RecordKind for Place {
 
     fn is_lawful(self) -> bool {
         (self.ascension <= 1_295_999_999)
-            & (self.declination >= -324_000_000)
-            & (self.declination <= 324_000_000)
-            & (self.motion_ra >= -20_000)
-            & (self.motion_ra <= 20_000)
-            & (self.motion_dec >= -20_000)
-            & (self.motion_dec <= 20_000)
-            & (self.year >= 1900)
-            & (self.year <= 2100)
+            & lawful_declination(self.declination)
+            & lawful_motion(self.motion_ra)
+            & lawful_motion(self.motion_dec)
+            & lawful_year(self.year)
     }
 
     fn to_bytes(self) -> Option<[u8; 16]> {
@@ -100,7 +93,7 @@ impl RecordKind for Place {
             z0,
             z1,
         ] = *b;
-        if z0 != 0 || z1 != 0 {
+        if [z0, z1] != [0; 2] {
             return None;
         }
         Some(Place {
@@ -120,13 +113,5 @@ impl RecordKind for Place {
             motion_dec: 0,
             year: 0,
         }
-    }
-
-    fn same(self, other: Place) -> bool {
-        (self.ascension == other.ascension)
-            & same_angle(self.declination, other.declination)
-            & same_motion(self.motion_ra, other.motion_ra)
-            & same_motion(self.motion_dec, other.motion_dec)
-            & (self.year == other.year)
     }
 }

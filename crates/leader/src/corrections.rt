@@ -59,11 +59,11 @@ pub fn correction<V: RecordKind>(
     };
     let log = logs.over(entries).log(leader);
     let index = entries::last_index(log, sought);
-    if index > logs.counts[leader as usize].known {
-        return Err(LeaderFault::Uncommitted);
-    }
-    if index > 0 {
-        return Ok(Some(tell(m, sequence, Outcome::KnownAlready, index)));
+    let known = logs.counts[leader as usize].known;
+    match index {
+        Some(i) if i > known => return Err(LeaderFault::Uncommitted),
+        Some(i) => return Ok(Some(tell(m, sequence, Outcome::KnownAlready, i))),
+        None => {}
     }
     let e = Entry {
         term: logs.term,
@@ -93,7 +93,7 @@ pub fn installed<V: RecordKind>(
 {
     let leader = present_leader(logs, lead, session)?;
     let begun = Sought::Term(logs.term);
-    if entries::last_index(logs.over(entries).log(leader), begun) > 0 {
+    if entries::last_index(logs.over(entries).log(leader), begun).is_some() {
         return Err(LeaderFault::TermBegun);
     }
     let e = Entry {
@@ -114,7 +114,7 @@ pub fn reply<V: RecordKind>(
     lead: &Lead,
     i: u32,
 ) -> Result<Message<V>, LeaderFault>
-    ensures { result ≡ reply_step V.RecordKind.blank_value V.RecordKind.alike copies.now.logs.now lead.now copies.now.entries.now i }
+    ensures { result ≡ reply_step V.RecordKind.blank_value V.PartialEq.eq copies.now.logs.now lead.now copies.now.entries.now i }
 {
     let logs = copies.logs;
     let leader = raft_log::leader_of(logs)?;

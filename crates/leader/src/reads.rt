@@ -28,7 +28,7 @@ pub fn copy_read<V: RecordKind>(
 ) -> Result<Message<V>, LeaderFault>
     requires shape { Shaped logs.old (length entries.now) }
     requires copy { copy < logs.old.copies }
-    ensures { (logs.new, result) ≡ copy_read V.RecordKind.alike logs.old entries.now m.now copy index }
+    ensures { (logs.new, result) ≡ copy_read V.PartialEq.eq logs.old entries.now m.now copy index }
 {
     raft_log::rise(logs, entries, copy, index)?;
     let known = logs.over(entries).known_log(copy);

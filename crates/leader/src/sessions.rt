@@ -36,7 +36,8 @@ fn zone_row<V: RecordKind>(copies: &Replicas<V>, leader: u8, holders: u8, zone: 
     ensures { result ≡ zone_row copies.now.logs.now copies.now.entries.now leader holders zone }
 {
     let known = copies.logs.counts[leader as usize].known;
-    if entries::last_index(copies.log(leader), Sought::Zone(zone)) > known {
+    let last = entries::last_index(copies.log(leader), Sought::Zone(zone));
+    if last.is_some_and(|i| i > known) {
         return Row::default();
     }
     Row {
@@ -61,7 +62,7 @@ pub fn open_session<V: RecordKind>(
     copies: &Replicas<V>,
     lead: &mut Lead,
 ) -> Result<Snapshot, LeaderFault>
-    ensures { (lead.new, result) ≡ open_step V.RecordKind.alike copies.now.logs.now lead.old copies.now.entries.now }
+    ensures { (lead.new, result) ≡ open_step V.PartialEq.eq copies.now.logs.now lead.old copies.now.entries.now }
 {
     let logs = copies.logs;
     let leader = raft_log::leader_of(logs)?;

@@ -46,7 +46,7 @@ pub fn commit<V: RecordKind, R: VoteRule>(
     n: u32,
 ) -> Result<u32, LeaderFault>
     requires shape { Shaped logs.old (length entries.now) }
-    ensures { (logs.new, result) ≡ commit_step V.RecordKind.alike (R.VoteRule.commits rule) logs.old entries.now n }
+    ensures { (logs.new, result) ≡ commit_step V.PartialEq.eq (R.VoteRule.commits rule) logs.old entries.now n }
 {
     Ok(raft_log::commit(rule, logs, entries, n)?)
 }

@@ -69,8 +69,8 @@ pub fn commit<V: RecordKind, R: VoteRule>(
     n: u32,
 ) -> Result<u32, LogFault>
     requires shape { Shaped logs.old (length entries.now) }
-    ensures value { (logs.new, result) ≡ commit_step V.RecordKind.alike (R.VoteRule.commits rule) logs.old entries.now n }
-    ensures means { (view_of logs.new entries.now, result) ≡ commit_move V.RecordKind.alike (R.VoteRule.commits rule) (view_of logs.old entries.now) n }
+    ensures value { (logs.new, result) ≡ commit_step V.PartialEq.eq (R.VoteRule.commits rule) logs.old entries.now n }
+    ensures means { (view_of logs.new entries.now, result) ≡ commit_move V.PartialEq.eq (R.VoteRule.commits rule) (view_of logs.old entries.now) n }
 {
     commit_step(rule, logs, entries, n)
 }
@@ -84,8 +84,8 @@ pub fn rise<V: RecordKind>(
 ) -> Result<(), LogFault>
     requires shape { Shaped logs.old (length entries.now) }
     requires copy { r < logs.old.copies }
-    ensures value { (logs.new, result) ≡ rise_step V.RecordKind.alike logs.old entries.now r n }
-    ensures means { (view_of logs.new entries.now, result) ≡ rise_move V.RecordKind.alike (view_of logs.old entries.now) r n }
+    ensures value { (logs.new, result) ≡ rise_step V.PartialEq.eq logs.old entries.now r n }
+    ensures means { (view_of logs.new entries.now, result) ≡ rise_move V.PartialEq.eq (view_of logs.old entries.now) r n }
     ensures shape { Shaped logs.new (length entries.now) }
 {
     rise_step(logs, entries, r, n)

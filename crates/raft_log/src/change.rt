@@ -113,7 +113,7 @@ pub fn rise_step<V: RecordKind>(
 ) -> Result<(), LogFault>
     requires shape { Shaped logs.old (length entries.now) }
     requires copy { r < logs.old.copies }
-    ensures { (logs.new, result) ≡ rise_step V.RecordKind.alike logs.old entries.now r n }
+    ensures { (logs.new, result) ≡ rise_step V.PartialEq.eq logs.old entries.now r n }
 {
     if !logs.over(entries).holds_committed(r, n) {
         return Err(LogFault::NotCommitted);

@@ -43,7 +43,7 @@ pub fn commit_step<V: RecordKind, R: VoteRule>(
     n: u32,
 ) -> Result<u32, LogFault>
     requires shape { Shaped logs.old (length entries.now) }
-    ensures { (logs.new, result) ≡ commit_step V.RecordKind.alike (R.VoteRule.commits rule) logs.old entries.now n }
+    ensures { (logs.new, result) ≡ commit_step V.PartialEq.eq (R.VoteRule.commits rule) logs.old entries.now n }
 {
     let leader = leader_of(logs)?;
     let counts = logs.counts[leader as usize];

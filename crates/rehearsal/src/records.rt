@@ -25,7 +25,7 @@ pub fn answer<V: RecordKind, R: VoteRule>(
     kept: &mut [V],
     bytes: &[u8],
 ) -> [u8; 24]
-    ensures { (s.new, entries.new, messages.new, kept.new, result) ≡ answer_step V.RecordKind.blank_value V.RecordKind.well_formed V.RecordKind.lawful V.RecordKind.bytes V.RecordKind.parsed V.RecordKind.alike R.VoteRule.commits R.VoteRule.elects s.old entries.old messages.old kept.old bytes.now }
+    ensures { (s.new, entries.new, messages.new, kept.new, result) ≡ answer_step V.RecordKind.blank_value V.RecordKind.well_formed V.RecordKind.lawful V.RecordKind.bytes V.RecordKind.parsed V.PartialEq.eq R.VoteRule.commits R.VoteRule.elects s.old entries.old messages.old kept.old bytes.now }
 {
     let code = code_of(bytes);
     match decode(bytes) {

@@ -44,7 +44,7 @@ pub fn commit<V: RecordKind, R: VoteRule>(
     entries: &[Entry<V>],
     n: u32,
 ) -> Result<u32, ServiceFault>
-    ensures { (s.new, result) ≡ commit_step V.RecordKind.alike R.VoteRule.commits s.old entries.now n }
+    ensures { (s.new, result) ≡ commit_step V.PartialEq.eq R.VoteRule.commits s.old entries.now n }
 {
     s.check_entries(entries)?;
     let rule = s.rule;

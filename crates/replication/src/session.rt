@@ -12,7 +12,7 @@ pub fn open<V: RecordKind, R: VoteRule>(
     s: &mut Service<R>,
     entries: &[Entry<V>],
 ) -> Result<u32, ServiceFault>
-    ensures { (s.new, result) ≡ open_step V.RecordKind.alike s.old entries.now }
+    ensures { (s.new, result) ≡ open_step V.PartialEq.eq s.old entries.now }
 {
     s.check_entries(entries)?;
     let snapshot = leader::open_session(&s.logs.over(entries), &mut s.lead)?;
@@ -27,7 +27,7 @@ fn fresh_reply<V: RecordKind, R: VoteRule>(
     entries: &[Entry<V>],
     i: u32,
 ) -> Result<Message<V>, ServiceFault>
-    ensures { result ≡ fresh_reply V.RecordKind.blank_value V.RecordKind.alike s.now entries.now i }
+    ensures { result ≡ fresh_reply V.RecordKind.blank_value V.PartialEq.eq s.now entries.now i }
 {
     s.check_entries(entries)?;
     Ok(leader::reply(&s.logs.over(entries), &s.lead, i)?)
@@ -40,7 +40,7 @@ pub fn reply<V: RecordKind, R: VoteRule>(
     messages: &mut [Message<V>],
     i: u32,
 ) -> Result<u32, ServiceFault>
-    ensures { (s.new, messages.new, result) ≡ reply_step V.RecordKind.blank_value V.RecordKind.alike s.old entries.now messages.old i }
+    ensures { (s.new, messages.new, result) ≡ reply_step V.RecordKind.blank_value V.PartialEq.eq s.old entries.now messages.old i }
 {
     s.check_messages(messages)?;
     let m = fresh_reply(s, entries, i)?;

@@ -12,7 +12,7 @@ use votes::VoteRule;
 // of known counts follow one another, the committed log only grows, every copy keeps what it holds
 // of it, and a leader has all of it.
 pub fn committed_stays<V: RecordKind, R: VoteRule>(rule: R)
-    ensures { Admitted (R.VoteRule.count rule) → Stays V.RecordKind.alike (R.VoteRule.commits rule) (R.VoteRule.elects rule) (R.VoteRule.count rule) }
+    ensures { Admitted (R.VoteRule.count rule) → Stays V.PartialEq.eq (R.VoteRule.commits rule) (R.VoteRule.elects rule) (R.VoteRule.count rule) }
 {}
 
 // A run that commits under one leader and then under another, whose entry takes the place of one

@@ -18,7 +18,7 @@ pub fn perform<V: RecordKind, R: VoteRule>(
     kept: &mut [V],
     call: Call<V>,
 ) -> Result<Effect<V>, ServiceFault>
-    ensures { (s.new, entries.new, messages.new, kept.new, result) ≡ perform_step V.RecordKind.blank_value V.RecordKind.well_formed V.RecordKind.lawful V.RecordKind.alike R.VoteRule.commits R.VoteRule.elects s.old entries.old messages.old kept.old call }
+    ensures { (s.new, entries.new, messages.new, kept.new, result) ≡ perform_step V.RecordKind.blank_value V.RecordKind.well_formed V.RecordKind.lawful V.PartialEq.eq R.VoteRule.commits R.VoteRule.elects s.old entries.old messages.old kept.old call }
 {
     let n = match call {
         Call::Elect { copy, voters } => u32::from(replication::elect(s, entries, copy, voters)?),

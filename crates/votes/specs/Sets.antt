@@ -1,9 +1,10 @@
 -- Sets of copies: the number a has copy k where its bit of value 2 ^ k is set.
-use Rattle.std.specs.Prelude.{◌≡◌, ℕ, zero, suc, ◌+◌, ◌-◌, ◌/◌, ◌%◌, ◌^◌, ◌<◌, ◌≤◌, Bool, ◌==◌}
+use Rattle.std.specs.Prelude.{◌≡◌, ℕ, zero, suc, ◌+◌, ◌-◌, ◌^◌, ◌<◌, ◌≤◌, Bool, ◌==◌}
+use Rattle.std.specs.Int.{bit_at}
 
 -- 1 where the set has copy k, else 0
 abbrev pub bit : ℕ → ℕ → ℕ
-bit a k = a / 2 ^ k % 2
+bit a k = bit_at a k
 
 -- whether the set has copy k
 abbrev pub has : ℕ → ℕ → Bool

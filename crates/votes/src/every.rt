@@ -1,9 +1,6 @@
 ghost use Rattle.std.specs.Prelude.{◌≡◌};
 ghost use Rattle.votes.specs.Rules.{every_copy, any_copy};
-ghost use Rattle.std.proofs.Common.{arith, ltb→lt, eqb→eq, lt→ltb};
-ghost use Rattle.std.proofs.Math.Dec.{eqb_refl};
-ghost use Rattle.votes.specs.Quorum;
-ghost use Rattle.votes.specs.Quorum.{full, same_size};
+ghost use Rattle.votes.specs.Quorum.{every_share, every_all, every_local};
 
 use crate::rule::VoteRule;
 use crate::sets::set_size;
@@ -30,11 +27,11 @@ impl VoteRule for EveryCopy {
 
     ghost elects = { λ m set. any_copy m.copies set };
 
-    ghost share = { λ r n a b p q. Quorum.share r.copies a b (omega (arith, eqb→eq _ _ p, ltb→lt _ _ q)) };
+    ghost share = { λ r n a b p q. every_share r.copies a b p q };
 
-    ghost all = { λ r n. let f = full r.copies n.1 in (rw f (eqb_refl r.copies), rw f (lt→ltb _ _ (omega arith))) };
+    ghost all = { λ r n. every_all r.copies n };
 
-    ghost local = { λ r n a b s. let e = same_size r.copies a b s in (rw e, rw e) };
+    ghost local = { λ r n a b s. every_local r.copies a b s };
 
     fn copies(self) -> u8 {
         self.copies

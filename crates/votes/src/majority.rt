@@ -1,8 +1,6 @@
 ghost use Rattle.std.specs.Prelude.{◌≡◌};
 ghost use Rattle.votes.specs.Rules.{majority};
-ghost use Rattle.std.proofs.Common.{arith, ltb→lt, lt→ltb};
-ghost use Rattle.votes.specs.Quorum;
-ghost use Rattle.votes.specs.Quorum.{full, same_size};
+ghost use Rattle.votes.specs.Quorum.{majority_share, majority_all, majority_local};
 
 use crate::rule::VoteRule;
 use crate::sets::set_size;
@@ -29,11 +27,11 @@ impl VoteRule for Majority {
 
     ghost elects = { λ m set. majority m.copies set };
 
-    ghost share = { λ r n a b p q. Quorum.share r.copies a b (omega (arith, ltb→lt _ _ p, ltb→lt _ _ q)) };
+    ghost share = { λ r n a b p q. majority_share r.copies a b p q };
 
-    ghost all = { λ r n. let f = full r.copies n.1 in (rw f (lt→ltb _ _ (omega arith)), rw f (lt→ltb _ _ (omega arith))) };
+    ghost all = { λ r n. let m = majority_all r.copies n in (m, m) };
 
-    ghost local = { λ r n a b s. let e = same_size r.copies a b s in (rw e, rw e) };
+    ghost local = { λ r n a b s. let e = majority_local r.copies a b s in (e, e) };
 
     fn copies(self) -> u8 {
         self.copies

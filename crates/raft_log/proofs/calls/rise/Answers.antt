@@ -10,7 +10,7 @@ pub returns : goal.returns
 returns g c =
     record {
       value = c.rise_step.ensures;
-      means = ap (seen_at c.args.entries.now) c.rise_step.ensures ∙ rise_means c.args.logs.now c.args.entries.now c.requires.shape g.V.RecordKind.alike c.args.r c.args.n c.requires.copy;
+      means = ap (seen_at c.args.entries.now) c.rise_step.ensures ∙ rise_means c.args.logs.now c.args.entries.now c.requires.shape g.V.PartialEq.eq c.args.r c.args.n c.requires.copy;
       shape = subst (λ (l : Logs). Shaped l (length c.args.entries.now)) (sym (ap (λ (p : Logs × Result (Unit {0}) LogFault). p.0) c.rise_step.ensures))
-          (rise_kept g.V.RecordKind.alike c.args.logs.now c.args.entries.now c.args.r c.args.n (length c.args.entries.now) c.requires.shape c.requires.copy);
+          (rise_kept g.V.PartialEq.eq c.args.logs.now c.args.entries.now c.args.r c.args.n (length c.args.entries.now) c.requires.shape c.requires.copy);
     }

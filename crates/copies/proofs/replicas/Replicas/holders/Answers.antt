@@ -8,7 +8,7 @@ use Rattle.copies.proofs.replicas.Replicas.holders.Goals.{then-holds, else-holds
 
 pub loop-r-preserved : goal.loop-r-preserved
 loop-r-preserved g c =
-    let p : ℕ → Bool = holds_of g.V.RecordKind.alike (seen c.args.self.now) c.args.leader c.args.n in
+    let p : ℕ → Bool = holds_of g.V.PartialEq.eq (seen c.args.self.now) c.args.leader c.args.n in
     let k = one_shl c.loop-r.r 8 (omega (arith, c.args.self.now.shaped.few)) in
     elim c.if-holds.branch [
       | then-holds w ↦

@@ -5,4 +5,4 @@ use Rattle.copies.specs.Questions.{holds_of}
 use Rattle.copies.proofs.replicas.Replicas.holders.Given as goal
 
 abbrev pub invariant-loop-r : goal.invariant-loop-r
-invariant-loop-r g l = (l.found ≡ mask (holds_of g.V.RecordKind.alike (seen l.self) l.leader l.n) l.r) × (l.found < 2 ^ l.r)
+invariant-loop-r g l = (l.found ≡ mask (holds_of g.V.PartialEq.eq (seen l.self) l.leader l.n) l.r) × (l.found < 2 ^ l.r)

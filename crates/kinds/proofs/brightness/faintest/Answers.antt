@@ -1,7 +1,0 @@
-use Rattle.std.proofs.Common.{refl}
-use lib.Ieee.{of_bits, of_fields, odd, of_int, round, units, size, span, climb}
-use Rattle.kinds.proofs.brightness.faintest.Goals as goal
-
-pub returns : goal.returns
-unfolding of_bits of_fields odd of_int round units size span climb
-returns c = refl
