@@ -30,11 +30,11 @@ fn is_nan_pattern(bits: u32) -> bool
     bits % 0x8000_0000 > 0x7f80_0000
 }
 
-// Whether the magnitude is between the two, or one of them. By `contains` of a range of floats it gets no proof.
+// Whether the magnitude is between the two, or one of them.
 fn lawful_magnitude(m: f32) -> bool
     ensures { result ≡ lawful_magnitude m }
 {
-    (m >= BRIGHTEST) & (m <= FAINTEST)
+    (BRIGHTEST..=FAINTEST).contains(&m)
 }
 
 // Whether two magnitudes are one, by the bits: `==` takes minus zero and plus zero for one value.
