@@ -21,7 +21,7 @@ pub fn holds<V: RecordKind>(led: &[Entry<V>], log: &[Entry<V>], n: u16) -> bool
     n as usize <= log.len() && front(log, n) == front(led, n)
 }
 
-// The term of the last entry, 0 of an empty log.
+// The term of the last entry. An empty log has 0, below every term, so that logs compare by it.
 pub fn last_term<V: RecordKind>(log: &[Entry<V>]) -> u16
     ensures { result ≡ last_term log.now }
 {

@@ -18,6 +18,7 @@ fn is_sought<V: RecordKind>(e: &Entry<V>, sought: Sought) -> bool
 }
 
 // The last entry that is sought, with its index counted from 1.
+// A log is lent as a slice and has no type of its own, so its bound stands at each search.
 pub fn last_of<V: RecordKind>(log: &[Entry<V>], sought: Sought) -> Option<(u16, Entry<V>)>
     requires { length log.now ≤ 4096 }
     ensures value { result ≡ last_of sought log.now }
@@ -44,7 +45,7 @@ pub fn last_value<V: RecordKind>(log: &[Entry<V>], star: u16) -> Option<V>
     last_of(log, Sought::Star(star)).map(|(_, e)| e.value)
 }
 
-// The stamp of the zone's last entry, or zeros.
+// The stamp of the zone's last entry. The formats write no stamp as zeros, so it is no Option.
 pub fn zone_stamp<V: RecordKind>(log: &[Entry<V>], zone: u8) -> Stamp
     requires { length log.now ≤ 4096 }
     ensures { result ≡ zone_stamp zone log.now }

@@ -9,9 +9,10 @@ ghost use Rattle.kinds.specs.SameMagnitude.{decides_brightness};
 use crate::kind::RecordKind;
 use crate::year::lawful_year;
 
-// The brightest and the faintest lawful magnitude.
+// The brightest lawful magnitude.
 const BRIGHTEST: f32 = -30.0;
 
+// The faintest.
 const FAINTEST: f32 = 30.0;
 
 // How bright a star is: its visual and its blue magnitude, and the year that they hold for.
@@ -22,7 +23,7 @@ pub struct Brightness {
     pub year: u16,
 }
 
-// Whether the bits are a NaN's.
+// Whether the bits are a NaN's. A float is made of other bits alone, so it cannot be asked.
 fn is_nan_pattern(bits: u32) -> bool
     ensures { result ≡ nan_bits binary32 bits }
 {
@@ -33,7 +34,7 @@ fn is_nan_pattern(bits: u32) -> bool
 fn lawful_magnitude(m: f32) -> bool
     ensures { result ≡ lawful_magnitude m }
 {
-    (m >= BRIGHTEST) & (m <= FAINTEST)
+    (BRIGHTEST..=FAINTEST).contains(&m)
 }
 
 // Whether two magnitudes are one, by the bits: `==` takes minus zero and plus zero for one value.
@@ -98,7 +99,7 @@ impl RecordKind for Brightness {
     }
 
     fn to_bytes(self) -> Option<[u8; 16]> {
-        if self.visual.is_nan() || self.blue.is_nan() {
+        if !self.is_well_formed() {
             return None;
         }
         let [v0, v1, v2, v3] = self.visual.to_le_bytes();
@@ -108,36 +109,18 @@ impl RecordKind for Brightness {
     }
 
     fn from_bytes(b: &[u8; 16]) -> Option<Brightness> {
-        let [
-            v0,
-            v1,
-            v2,
-            v3,
-            b0,
-            b1,
-            b2,
-            b3,
-            y0,
-            y1,
-            z0,
-            z1,
-            z2,
-            z3,
-            z4,
-            z5,
-        ] = *b;
-        if [z0, z1, z2, z3, z4, z5] != [0; 6] {
+        if [b[10], b[11], b[12], b[13], b[14], b[15]] != [0; 6] {
             return None;
         }
-        let visual = u32::from_le_bytes([v0, v1, v2, v3]);
-        let blue = u32::from_le_bytes([b0, b1, b2, b3]);
+        let visual = u32::from_le_bytes([b[0], b[1], b[2], b[3]]);
+        let blue = u32::from_le_bytes([b[4], b[5], b[6], b[7]]);
         if is_nan_pattern(visual) || is_nan_pattern(blue) {
             return None;
         }
         Some(Brightness {
             visual: f32::from_bits(visual),
             blue: f32::from_bits(blue),
-            year: u16::from_le_bytes([y0, y1]),
+            year: u16::from_le_bytes([b[8], b[9]]),
         })
     }
 

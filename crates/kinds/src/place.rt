@@ -75,33 +75,15 @@ impl RecordKind for Place {
     }
 
     fn from_bytes(b: &[u8; 16]) -> Option<Place> {
-        let [
-            a0,
-            a1,
-            a2,
-            a3,
-            d0,
-            d1,
-            d2,
-            d3,
-            m0,
-            m1,
-            n0,
-            n1,
-            y0,
-            y1,
-            z0,
-            z1,
-        ] = *b;
-        if [z0, z1] != [0; 2] {
+        if [b[14], b[15]] != [0; 2] {
             return None;
         }
         Some(Place {
-            ascension: u32::from_le_bytes([a0, a1, a2, a3]),
-            declination: i32::from_le_bytes([d0, d1, d2, d3]),
-            motion_ra: i16::from_le_bytes([m0, m1]),
-            motion_dec: i16::from_le_bytes([n0, n1]),
-            year: u16::from_le_bytes([y0, y1]),
+            ascension: u32::from_le_bytes([b[0], b[1], b[2], b[3]]),
+            declination: i32::from_le_bytes([b[4], b[5], b[6], b[7]]),
+            motion_ra: i16::from_le_bytes([b[8], b[9]]),
+            motion_dec: i16::from_le_bytes([b[10], b[11]]),
+            year: u16::from_le_bytes([b[12], b[13]]),
         })
     }
 
