@@ -95,8 +95,9 @@ fn tell_change<R: VoteRule>(
     m: &Message<Place>,
 ) -> Result<(), AllocError> {
     match m.body {
-        Body::CorrectionRequest => tell_row(out, &s.relay, m.star),
-        Body::CorrectionReply { .. } => tell_row(out, &s.relay, m.star),
+        Body::CorrectionRequest | Body::CorrectionReply { .. } => {
+            tell_row(out, &s.relay, m.star)
+        }
         Body::CopyRead { copy, .. } if copy < 7 => {
             let known = s.logs.known[copy as usize];
             writeln!(out, "{INDENT}copy {copy}: known count {known}")
