@@ -4,6 +4,7 @@ use leader::Lead;
 use relay::{Relay, Snapshot};
 
 // How many messages the table takes, and how many are under way: the first of the lent slice.
+// The slice stays beside it, since memory is lent to each step and the service is a plain struct.
 #[derive(Clone, Copy)]
 pub struct Table {
     pub size: u16,

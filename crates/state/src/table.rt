@@ -16,11 +16,9 @@ pub fn take_message<V: RecordKind>(
     requires shape { TableShaped table.old (length messages.old) }
     ensures { (table.new, messages.new, result) ≡ taken table.old messages.old place }
 {
-    let last = table.count - 1;
+    table.count -= 1;
     let m = messages[place as usize];
-    let moved = messages[last as usize];
-    messages[place as usize] = moved;
-    table.count = last;
+    messages[place as usize] = messages[table.count as usize];
     m
 }
 
@@ -31,7 +29,7 @@ pub fn put_message<V: RecordKind>(table: &mut Table, messages: &mut [Message<V>]
     ensures { (table.new, messages.new) ≡ put_at table.old messages.old m }
 {
     messages[table.count as usize] = m;
-    table.count = table.count + 1;
+    table.count += 1;
 }
 
 // A new message goes to the end, unless the table is full.
