@@ -1,5 +1,5 @@
 -- What each kind of message does where it arrives, and what it brings about.
-use Rattle.std.specs.Prelude.{ℕ, Bool, cond, ◌||◌, List, Some, None, Ok, Err, Option, Result, nat_le, slice_index_or, slice_set}
+use Rattle.std.specs.Prelude.{ℕ, Bool, cond, List, Some, None, Ok, Err, Option, Result, nat_le, slice_index_or, slice_set}
 use Rattle.entries.specs.declared.entry.Entry.{Entry}
 use Rattle.entries.specs.declared.entry.Stamp.{Stamp}
 use Rattle.raft_log.specs.declared.fault.LogFault.TheVariants.{NotCommitted}
