@@ -6,5 +6,5 @@ mod records;
 mod writing;
 
 pub use reading::decode;
-pub use records::{answer, rehearse, rehearse_input, rehearse_stream};
+pub use records::{answer, rehearse, rehearse_input};
 pub use writing::{encode, fault_record};

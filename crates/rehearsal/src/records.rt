@@ -8,8 +8,6 @@ use kinds::RecordKind;
 use relay::Message;
 use state::{Service, ServiceFault};
 use std::alloc::{AllocError, Global};
-use std::io;
-use std::io::{Read, Write};
 use votes::{Majority, VoteRule};
 
 // The code that the answer begins with: that of the record, 0 of a short one.
@@ -63,16 +61,4 @@ pub fn rehearse_input<V: RecordKind>(heap: Global, input: &[u8]) -> Result<Vec<u
         return Ok(Vec::new(heap));
     };
     rehearse(heap, &mut s, &mut entries, &mut messages, &mut kept, input)
-}
-
-// Rehearses all that the reader gives, and writes the answers.
-pub fn rehearse_stream<V: RecordKind>(
-    heap: Global,
-    reader: &mut impl Read,
-    writer: &mut impl Write,
-) -> io::Result<()> {
-    let mut input = Vec::new(heap);
-    reader.read_to_end(&mut input)?;
-    let output = rehearse_input::<V>(heap, &input)?;
-    writer.write_all(&output)
 }

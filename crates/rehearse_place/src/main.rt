@@ -4,9 +4,13 @@
 #![tactic(auto)]
 
 use kinds::Place;
-use rehearsal::rehearse_stream;
 use std::io;
+use std::io::{Read, Write};
 
 fn main(rt: HostRuntime) -> io::Result<()> {
-    rehearse_stream::<Place>(rt.alloc(), &mut rt.stdin(), &mut rt.stdout())
+    let mut input = Vec::new(rt.alloc());
+    rt.stdin().read_to_end(&mut input)?;
+    let output = rehearsal::rehearse_input::<Place>(rt.alloc(), input.as_slice())?;
+    rt.stdout().write_all(output.as_slice())?;
+    Ok(())
 }
