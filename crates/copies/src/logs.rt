@@ -7,6 +7,7 @@ pub struct Counts {
 
 // Each copy's counts, with the present term and leader. Copy r's log lies in the lent slice from
 // r * capacity on.
+// An array of seven with a number beside it, since the service has no heap: the first `copies` count.
 #[derive(Clone, Copy)]
 pub struct Logs {
     pub copies: u8,

@@ -16,6 +16,7 @@ impl Logs {
         ensures value { result ≡ greatest (known_of self.now) self.now.copies }
         ensures bound { 0 < self.now.copies → result < self.now.copies }
     {
+        // A loop: `max_by_key` answers the last of equal counts, and the lowest copy is sought.
         let mut best = 0;
         for r in 0..self.copies {
             if self.counts[best as usize].known < self.counts[r as usize].known {

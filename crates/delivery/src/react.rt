@@ -11,6 +11,8 @@ use relay::{Message, Outcome, Settlement};
 use state::{Service, ServiceFault};
 use votes::VoteRule;
 
+// Service and slice stand apart and must fit, as at the calls of the log: memory is lent to each step.
+
 // What a delivered message brings about: a new message, an answer that its client takes, or nothing more.
 #[derive(Drop)]
 pub enum Reaction<V> {

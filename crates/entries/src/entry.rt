@@ -18,6 +18,7 @@ pub struct Entry<V> {
 }
 
 // What an entry is sought by.
+// An enum and no closure: definitions and contracts name what is sought.
 #[derive(Clone, Copy)]
 pub enum Sought {
     Star(u16),

@@ -27,6 +27,7 @@ pub trait RecordKind: Copy + Eq {
         ensures { result ≡ lawful self };
 
     // The value's bytes, or none for a malformed value.
+    // Methods and no TryFrom: the laws below tie the two directions together.
     fn to_bytes(self) -> Option<[u8; 16]>
         ensures value { result ≡ (if well_formed self then Some (bytes self) else None) }
         ensures numbers { fits self };

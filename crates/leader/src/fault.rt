@@ -20,6 +20,7 @@ pub enum LeaderFault {
     Log(LogFault),
 }
 
+// By hand: what a `?` makes of a fault stands in `from_gives`, which no derive writes.
 impl From<LogFault> for LeaderFault {
     ghost from_gives = { λ e r. r ≡ Log e };
 

@@ -10,7 +10,6 @@ use std::io::{Read, Write};
 fn main(rt: HostRuntime) -> io::Result<()> {
     let mut input = Vec::new(rt.alloc());
     rt.stdin().read_to_end(&mut input)?;
-    let output = rehearsal::rehearse_input::<Brightness>(rt.alloc(), input.as_slice())?;
-    rt.stdout().write_all(output.as_slice())?;
-    Ok(())
+    let output = rehearsal::rehearse_input::<Brightness>(rt.alloc(), &input)?;
+    rt.stdout().write_all(&output)
 }

@@ -10,6 +10,8 @@ use state::{Service, ServiceFault};
 use votes::VoteRule;
 
 // Carries the call out. A refused call changes nothing.
+// Memory is lent to each step, beside a service held by value, so the four stand apart.
+// One arm a step: each takes arguments and memory of its own, so closures would have nothing in common.
 #[tactic(auto, unfolding(crate::specs::Perform::perform_step))]
 pub fn perform<V: RecordKind, R: VoteRule>(
     s: &mut Service<R>,

@@ -20,10 +20,7 @@ pub fn blank_entry<V: RecordKind>() -> Entry<V>
 {
     Entry {
         term: 0,
-        stamp: Stamp {
-            session: 0,
-            number: 0,
-        },
+        stamp: Stamp::default(),
         client: 0,
         number: 0,
         star: 0,

@@ -12,7 +12,7 @@ pub struct Table {
 }
 
 // A service over any vote rule. Its entries, messages and kept values lie in memory that is lent to
-// each step. Of the clients the first `seats` take part.
+// each step. Of the clients the first `seats` take part: an array, since the service has no heap.
 #[derive(Clone, Copy)]
 pub struct Service<R> {
     pub rule: R,
