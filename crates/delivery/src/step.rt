@@ -66,13 +66,13 @@ pub fn deliver<V: RecordKind, R: VoteRule>(
     s.check_messages(messages)?;
     s.check_place(place)?;
     let m = state::take_message(&mut s.table, messages, place as u16);
-    Ok(match react_to(s, entries, &m) {
+    match react_to(s, entries, &m) {
         Ok(Reaction::Sends(sent)) => {
             state::put_message(&mut s.table, messages, sent);
-            Effect::Done(0)
+            Ok(Effect::Done(0))
         }
-        Ok(Reaction::Answers(answer)) => Effect::Answered(answer),
-        Ok(Reaction::Ends) => Effect::Done(0),
-        Err(fault) => Effect::Dropped(fault),
-    })
+        Ok(Reaction::Answers(answer)) => Ok(Effect::Answered(answer)),
+        Ok(Reaction::Ends) => Ok(Effect::Done(0)),
+        Err(fault) => Ok(Effect::Dropped(fault)),
+    }
 }

@@ -1,4 +1,4 @@
-ghost use Rattle.std.specs.Prelude.{◌≡◌, ℕ, ◌<◌, ◌≤◌, true, length, OnOk, IfSome};
+ghost use Rattle.std.specs.Prelude.{◌≡◌, ℕ, ◌<◌, ◌≤◌, true, length, is_ok, OnOk, IfSome};
 ghost use Rattle.copies.specs.Shape.{shaped, Shaped};
 ghost use Rattle.state.specs.Memory.{table_fits, TableShaped, seats_fit, enough, occupied, seat_of};
 ghost use Rattle.state.specs.Parts.{new_step};
@@ -26,6 +26,14 @@ impl Table {
     }
 }
 
+// Whether there are 1 to 8 clients, and n kept values are enough for them.
+pub fn seats_fit(seats: u8, n: usize) -> bool
+    ensures value { result ≡ seats_fit seats n }
+    ensures means { result ≡ true → (seats ≤ 8) × (seats ≤ n) }
+{
+    (seats >= 1) & (seats <= 8) & (seats as usize <= n)
+}
+
 // Refuses where the lent memory is not enough.
 fn enough(fits: bool) -> Result<(), ServiceFault>
     ensures { result ≡ enough fits }
@@ -41,6 +49,7 @@ impl<R> Service<R> {
     // Refuses where the entries are too few for the logs, or a number of the logs is out of bounds.
     pub fn check_entries<V: RecordKind>(&self, entries: &[Entry<V>]) -> Result<(), ServiceFault>
         ensures value { result ≡ enough (shaped self.now.logs (length entries.now)) }
+        ensures variant { is_ok result ≡ shaped self.now.logs (length entries.now) }
         ensures means { OnOk result (Shaped self.now.logs (length entries.now)) }
     {
         enough(self.logs.fits(entries.len()))
@@ -49,6 +58,7 @@ impl<R> Service<R> {
     // Refuses where the messages are too few for the table, or a number of the table is out of bounds.
     pub fn check_messages<V: RecordKind>(&self, messages: &[Message<V>]) -> Result<(), ServiceFault>
         ensures value { result ≡ enough (table_fits self.now.table (length messages.now)) }
+        ensures variant { is_ok result ≡ table_fits self.now.table (length messages.now) }
         ensures means { OnOk result (TableShaped self.now.table (length messages.now)) }
     {
         enough(self.table.fits(messages.len()))
@@ -57,9 +67,10 @@ impl<R> Service<R> {
     // Refuses where the kept values are too few for the clients, or these are not 1 to 8.
     pub fn check_kept<V: RecordKind>(&self, kept: &[V]) -> Result<(), ServiceFault>
         ensures value { result ≡ enough (seats_fit self.now.seats (length kept.now)) }
+        ensures variant { is_ok result ≡ seats_fit self.now.seats (length kept.now) }
         ensures means { OnOk result (self.now.seats ≤ length kept.now) }
     {
-        enough((self.seats >= 1) & (self.seats <= 8) & (self.seats as usize <= kept.len()))
+        enough(seats_fit(self.seats, kept.len()))
     }
 
     // Refuses where there is no message at the place.
@@ -101,11 +112,15 @@ pub fn new_service<V: RecordKind, R: VoteRule>(
     ensures { result ≡ new_step rule (R.VoteRule.count rule) capacity size seats (length entries.now) (length messages.now) (length kept.now) }
 {
     let logs = Logs::new(rule.copies(), capacity);
+    enough(logs.fits(entries.len()))?;
+    let table = Table { size, count: 0 };
+    enough(table.fits(messages.len()))?;
+    enough(seats_fit(seats, kept.len()))?;
     let client = Client {
         number: 0,
         waiting: Waiting::Nothing,
     };
-    let s = Service {
+    Ok(Service {
         rule,
         logs,
         lead: Lead { part: 0, last: 0 },
@@ -113,10 +128,6 @@ pub fn new_service<V: RecordKind, R: VoteRule>(
         relay: Relay::closed(0),
         clients: [client; 8],
         seats,
-        table: Table { size, count: 0 },
-    };
-    s.check_entries(entries)?;
-    s.check_messages(messages)?;
-    s.check_kept(kept)?;
-    Ok(s)
+        table,
+    })
 }
