@@ -5,13 +5,12 @@ use Rattle.entries.specs.declared.entry.Entry.{Entry}
 use Rattle.entries.specs.Compare.{entry_alike, all_alike}
 use Rattle.safety.specs.Runs.{Telling}
 
-module _ {V : Type 0} where
-  module _ (alike : V → V → Bool) (tells : Telling alike) where
-    pub entries_one : (a b : Entry V) → entry_alike alike a b ≡ true → a ≡ b
-    entries_one a b e = let h = (tells a.value b.value).0 in grind (arith, and_parts, eqb-true, h)
+module _ {V : Type 0} (alike : V → V → Bool) (tells : Telling alike) where
+  pub entries_one : (a b : Entry V) → entry_alike alike a b ≡ true → a ≡ b
+  entries_one a b e = let h = (tells a.value b.value).0 in grind (arith, and_parts, eqb-true, h)
 
-    pub all_one : (l m : List (Entry V)) → all_alike alike l m ≡ true → l ≡ m
-    all_one [] [] e = refl
-    all_one [] (y ∷ m) e = cc
-    all_one (x ∷ l) [] e = cc
-    all_one (x ∷ l) (y ∷ m) e = let k = all_one l m in grind (arith, entries_one x y, k)
+  pub all_one : (l m : List (Entry V)) → all_alike alike l m ≡ true → l ≡ m
+  all_one [] [] e = refl
+  all_one [] (y ∷ m) e = cc
+  all_one (x ∷ l) [] e = cc
+  all_one (x ∷ l) (y ∷ m) e = let k = all_one l m in grind (arith, entries_one x y, k)
