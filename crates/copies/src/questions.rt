@@ -16,7 +16,7 @@ impl Logs {
         ensures value { result ≡ greatest (known_of self.now) self.now.copies }
         ensures bound { 0 < self.now.copies → result < self.now.copies }
     {
-        // A loop: `max_by_key` answers the last of equal counts, and the lowest copy is sought.
+        // A loop, which shows that the lowest of equal counts is kept: `max_by_key` keeps the last.
         let mut best = 0;
         for r in 0..self.copies {
             if self.counts[best as usize].known < self.counts[r as usize].known {
@@ -27,7 +27,7 @@ impl Logs {
     }
 }
 
-impl<'a, V: RecordKind> Replicas<'a, V> {
+impl<'a, V: RecordKind> Replicas<'_, 'a, V> {
     // Copy r's log.
     pub fn log(&self, r: u8) -> &'a [Entry<V>]
         requires { r < self.now.logs.now.copies }
@@ -47,7 +47,7 @@ impl<'a, V: RecordKind> Replicas<'a, V> {
         ensures { result ≡ objects_to (seen self.now) candidate voters r }
     {
         let newer = entries::is_newer(self.log(r), self.log(candidate));
-        votes::has(voters, r) & newer
+        votes::has(voters, r) && newer
     }
 
     // Whether no voter's log is newer than the candidate's.
@@ -73,7 +73,7 @@ impl<'a, V: RecordKind> Replicas<'a, V> {
         ensures { result ≡ ready (seen self.now) leader }
     {
         let term = entries::last_term(self.known_log(leader));
-        (self.logs.counts[leader as usize].known > 0) & (term == self.logs.term)
+        self.logs.counts[leader as usize].known > 0 && term == self.logs.term
     }
 
     // Whether copy r holds the first n entries of copy a.

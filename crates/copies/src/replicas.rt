@@ -4,10 +4,10 @@ ghost use Rattle.copies.specs.Shape.{Shaped};
 use crate::logs::Logs;
 use entries::Entry;
 
-// The copies' logs where they lie: the numbers, and the lent slice that they fit.
+// The copies' logs as they can be read: the numbers with the lent slice, which is long enough for them.
 #[derive(Drop)]
-pub struct Replicas<'a, V> {
-    pub logs: &'a Logs,
+pub struct Replicas<'l, 'a, V> {
+    pub logs: &'l Logs,
     pub entries: &'a [Entry<V>],
     pub ghost shaped: { Shaped logs.now (length entries.now) },
 }

@@ -15,10 +15,7 @@ impl Logs {
         Logs {
             copies,
             capacity,
-            counts: [Counts {
-                length: 0,
-                known: 0,
-            }; 7],
+            counts: [Counts::default(); 7],
             term: 0,
             leader: None,
         }
@@ -31,7 +28,7 @@ impl Logs {
         ensures places { SevenPlaces self.now }
     {
         let counts = self.counts[k as usize];
-        (counts.length <= self.capacity) & (counts.known <= counts.length)
+        counts.length <= self.capacity && counts.known <= counts.length
     }
 
     fn counts_fit(&self) -> bool
@@ -47,10 +44,7 @@ impl Logs {
     fn leader_fits(&self) -> bool
         ensures { result ≡ led_within self.now.leader self.now.copies }
     {
-        match self.leader {
-            Some(leader) => leader < self.copies,
-            None => true,
-        }
+        self.leader.is_none_or(|leader| leader < self.copies)
     }
 
     // Whether the sizes are within bounds, the counts fit them, and n entries are enough for all logs.
@@ -64,7 +58,7 @@ impl Logs {
         if self.capacity < 1 || self.capacity > 4096 {
             return false;
         }
-        if (self.copies as usize * self.capacity as usize) > n {
+        if self.copies as usize * self.capacity as usize > n {
             return false;
         }
         if !self.leader_fits() {
@@ -74,7 +68,7 @@ impl Logs {
     }
 
     // The logs with the slice that they lie in.
-    pub fn over<'a, V: RecordKind>(&'a self, entries: &'a [Entry<V>]) -> Replicas<'a, V>
+    pub fn over<'l, 'a, V: RecordKind>(&'l self, entries: &'a [Entry<V>]) -> Replicas<'l, 'a, V>
         requires { Shaped self.now (length entries.now) }
         ensures logs { result.logs.now ≡ self.now }
         ensures entries { result.entries.now ≡ entries.now }

@@ -1,6 +1,7 @@
 ghost use Rattle.std.specs.Prelude.{◌≡◌, ℕ, ◌<◌, ◌≤◌, length, take};
 ghost use Rattle.entries.specs.Fronts.{holds_first, last_term, newer, gap};
 
+use crate::compare::same_entries;
 use crate::entry::Entry;
 use kinds::RecordKind;
 
@@ -18,7 +19,7 @@ pub fn holds<V: RecordKind>(led: &[Entry<V>], log: &[Entry<V>], n: u16) -> bool
     requires { n ≤ length led.now }
     ensures { result ≡ holds_first V.PartialEq.eq n led.now log.now }
 {
-    n as usize <= log.len() && front(log, n) == front(led, n)
+    n as usize <= log.len() && same_entries(front(log, n), front(led, n))
 }
 
 // The term of the last entry. An empty log has 0, below every term, so that logs compare by it.

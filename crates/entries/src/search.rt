@@ -1,24 +1,32 @@
-ghost use Rattle.std.specs.Prelude.{◌≡◌, ℕ, ◌≤◌, length, IfSome};
+ghost use Rattle.std.specs.Prelude.{◌≡◌, ℕ, ◌<◌, ◌≤◌, length, IfSome};
 ghost use Rattle.std.specs.Option.{option_map};
-ghost use Rattle.entries.specs.Search.{matches, last_of, last_value, zone_stamp};
+ghost use Rattle.entries.specs.Search.{zone_of, matches, last_of, last_value, zone_stamp};
 
 use crate::entry::{Entry, Sought, Stamp};
 use kinds::RecordKind;
 
-// Whether the entry is one that is sought. A star's zone is its number by 4,096; star 0 has none.
+// The zone of a star is its number by 4,096.
+pub fn zone_of(star: u16) -> u8
+    ensures value { result ≡ zone_of star }
+    ensures bound { result < 16 }
+{
+    (star / 4096) as u8
+}
+
+// Whether the entry is one that is sought. An opening entry, of star 0, lies in no zone.
 fn is_sought<V: RecordKind>(e: &Entry<V>, sought: Sought) -> bool
     ensures { result ≡ matches sought e.now }
 {
     match sought {
         Sought::Star(star) => e.star == star,
-        Sought::Zone(zone) => e.star != 0 && e.star / 4096 == u16::from(zone),
+        Sought::Zone(zone) => e.star != 0 && zone_of(e.star) == zone,
         Sought::Request { client, number } => e.client == client && e.number == number,
         Sought::Term(term) => e.term == term,
     }
 }
 
 // The last entry that is sought, with its index counted from 1.
-// A log is lent as a slice and has no type of its own, so its bound stands at each search.
+// The bound stands at each search, since a log is a plain slice and any part of one can be searched.
 pub fn last_of<V: RecordKind>(log: &[Entry<V>], sought: Sought) -> Option<(u16, Entry<V>)>
     requires { length log.now ≤ 4096 }
     ensures value { result ≡ last_of sought log.now }
@@ -45,7 +53,7 @@ pub fn last_value<V: RecordKind>(log: &[Entry<V>], star: u16) -> Option<V>
     last_of(log, Sought::Star(star)).map(|(_, e)| e.value)
 }
 
-// The stamp of the zone's last entry. The formats write no stamp as zeros, so it is no Option.
+// The stamp of the zone's last entry. No stamp is zeros wherever stamps are compared or written, so it is no Option.
 pub fn zone_stamp<V: RecordKind>(log: &[Entry<V>], zone: u8) -> Stamp
     requires { length log.now ≤ 4096 }
     ensures { result ≡ zone_stamp zone log.now }

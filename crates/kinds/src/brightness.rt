@@ -23,7 +23,7 @@ pub struct Brightness {
     pub year: u16,
 }
 
-// Whether the bits are a NaN's. A float is made of other bits alone, so it cannot be asked.
+// Whether the bits are a NaN's. `from_bits` takes other bits alone, so they are asked, and not the float.
 fn is_nan_pattern(bits: u32) -> bool
     ensures { result ≡ nan_bits binary32 bits }
 {

@@ -27,7 +27,7 @@ pub trait RecordKind: Copy + Eq {
         ensures { result ≡ lawful self };
 
     // The value's bytes, or none for a malformed value.
-    // Methods and no TryFrom: the laws below tie the two directions together.
+    // No TryFrom: the two directions have their laws together below, as members of one trait.
     fn to_bytes(self) -> Option<[u8; 16]>
         ensures value { result ≡ (if well_formed self then Some (bytes self) else None) }
         ensures numbers { fits self };

@@ -9,7 +9,7 @@ use crate::year::lawful_year;
 
 // Where a star stands: right ascension and declination, its motion in each, and the year that
 // they hold for.
-#[derive(Clone, Copy, PartialEq, Eq)]
+#[derive(Clone, Copy, PartialEq, Eq, Default)]
 pub struct Place {
     pub ascension: u32,
     pub declination: i32,
@@ -88,12 +88,6 @@ impl RecordKind for Place {
     }
 
     fn blank() -> Place {
-        Place {
-            ascension: 0,
-            declination: 0,
-            motion_ra: 0,
-            motion_dec: 0,
-            year: 0,
-        }
+        Place::default()
     }
 }

@@ -15,6 +15,7 @@ use votes::VoteRule;
 // The calls of the log. Each says exactly what struct and slice are after it, and what that means of
 // the logs, known counts, term and leader.
 // Struct and slice stand apart and must fit: `copy` may end a log below its known count, so no type keeps the fact.
+// Each wraps a step, so that what it means is proved at one return.
 
 // Makes the candidate leader of the next term, which is the answer.
 pub fn elect<V: RecordKind, R: VoteRule>(

@@ -7,6 +7,8 @@ use copies::{Logs, Replicas};
 use entries::Entry;
 use kinds::RecordKind;
 
+// Struct and slice stand apart and must fit, as at the calls of the log.
+
 // The leader, which is one of the copies.
 pub fn leader_of(logs: &Logs) -> Result<u8, LogFault>
     requires { (a : ℕ) → logs.now.leader ≡ Some a → a < logs.now.copies }
@@ -98,7 +100,7 @@ pub fn entry_known<V: RecordKind>(copies: &Replicas<V>, a: u8, i: u32) -> Result
     ensures value { result ≡ entry_known V.RecordKind.blank_value copies.now.logs.now copies.now.entries.now a i }
     ensures bound { OnOk result (i ≤ known_of copies.now.logs.now a) }
 {
-    if i == 0 || i > copies.logs.counts[a as usize].known as u32 {
+    if i == 0 || i > u32::from(copies.logs.counts[a as usize].known) {
         return Err(LogFault::CountOutOfRange);
     }
     Ok(entry_at(copies.log(a), i as usize - 1))

@@ -9,6 +9,8 @@ use entries::Entry;
 use kinds::RecordKind;
 use votes::VoteRule;
 
+// Struct and slice stand apart and must fit, as at the calls of the log.
+
 // Makes the candidate leader of the next term, which is the answer.
 pub fn elect_step<V: RecordKind, R: VoteRule>(
     rule: R,
@@ -27,12 +29,10 @@ pub fn elect_step<V: RecordKind, R: VoteRule>(
     if !logs.over(entries).none_newer(candidate, voters) {
         return Err(LogFault::VoterNewer);
     }
-    if logs.term == 65535 {
-        return Err(LogFault::TermsUsedUp);
-    }
-    logs.term = logs.term + 1;
+    let term = logs.term.checked_add(1).ok_or(LogFault::TermsUsedUp)?;
+    logs.term = term;
     logs.leader = Some(candidate);
-    Ok(logs.term)
+    Ok(term)
 }
 
 // Raises the leader's known count to n, which is the answer.
@@ -47,7 +47,7 @@ pub fn commit_step<V: RecordKind, R: VoteRule>(
 {
     let leader = leader_of(logs)?;
     let counts = logs.counts[leader as usize];
-    if (n <= counts.known as u32) | (n > counts.length as u32) {
+    if n <= u32::from(counts.known) || n > u32::from(counts.length) {
         return Err(LogFault::CountOutOfRange);
     }
     let count = n as u16;

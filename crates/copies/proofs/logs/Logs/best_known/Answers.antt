@@ -1,4 +1,4 @@
-use Rattle.std.proofs.Common.{ℕ, get_or, ◌∙◌, arith}
+use Rattle.std.proofs.Common.{ℕ, ◌∙◌, arith}
 use Rattle.copies.specs.Shape.{known_of}
 use Rattle.copies.proofs.Below.{greatest_yes, greatest_no}
 use Rattle.copies.proofs.logs.Logs.best_known.Goals as goal

@@ -1,4 +1,4 @@
-use Rattle.std.proofs.Common.{◌≡◌, ◌<◌, ◌≤◌, get_or}
+use Rattle.std.proofs.Common.{◌≡◌, ◌<◌, ◌≤◌}
 use Rattle.copies.specs.Shape.{known_of}
 use Rattle.copies.specs.Questions.{greatest}
 use Rattle.copies.proofs.logs.Logs.best_known.Given as goal
