@@ -22,10 +22,10 @@ through : {A B : Type 0} (f : A → B) (b : Bool) (x y : A) → f (cond b x y) �
 through f true x y = refl
 through f false x y = refl
 
-put_same : {A : Type 0} (f : ℕ → A) (r : ℕ) (x : A) → put f r x r ≡ x
+pub put_same : {A : Type 0} (f : ℕ → A) (r : ℕ) (x : A) → put f r x r ≡ x
 put_same f r x = let t : eqb r r ≡ true = grind (arith, nat_tests) in rw t
 
-put_other : {A : Type 0} (f : ℕ → A) (r : ℕ) (x : A) (q : ℕ) → (q ≡ r → ⊥) → put f r x q ≡ f q
+pub put_other : {A : Type 0} (f : ℕ → A) (r : ℕ) (x : A) (q : ℕ) → (q ≡ r → ⊥) → put f r x q ≡ f q
 put_other f r x q n = let t : eqb q r ≡ false = grind (arith, nat_tests) in rw t
 
 -- one item of a list set is one value of its function put

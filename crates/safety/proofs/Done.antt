@@ -10,23 +10,17 @@ use Rattle.copies.specs.View.{View}
 use Rattle.copies.specs.Questions.{best_known, objects_to, none_newer, holds_of, holders, holds_committed}
 use Rattle.copies.proofs.Below.{all_each}
 use Rattle.raft_log.specs.declared.fault.LogFault.{LogFault}
-use Rattle.raft_log.specs.Moves.{put, leading, logged, knowing, copied, elect_move, append_move, copy_from, copy_move, commit_at, commit_move, rise_move}
+use Rattle.raft_log.proofs.Meaning.{put_same, put_other}
+use Rattle.raft_log.specs.Moves.{leading, logged, knowing, copied, elect_move, append_move, copy_from, copy_move, commit_at, commit_move, rise_move}
 use Rattle.safety.specs.Runs.{Telling}
 use Rattle.safety.proofs.Masks.{in_mask}
 use Rattle.safety.proofs.Alike.{all_one}
 
--- ---- tests, and one value put into a function
+-- ---- tests
 
 pub is_true : (b : Bool) → T b → b ≡ true
 is_true true h = refl
 is_true false h = absurd h
-
-module _ {A : Type 0} (f : ℕ → A) (r : ℕ) (x : A) where
-  pub put_same : put f r x r ≡ x
-  put_same = cond-true (eqb r r) x (f r) (eq-eqb r r refl)
-
-  pub put_other : (q : ℕ) → (q ≡ r → ⊥) → put f r x q ≡ f q
-  put_other q d = cond-false (eqb q r) x (f q) (ne_eqb q r d)
 
 -- ---- what a done move did
 

@@ -14,7 +14,8 @@ use Rattle.raft_log.specs.Moves.{put, leading, logged, knowing, copied, elect_mo
 use Rattle.safety.specs.Runs.{Meet, Telling, empty_view}
 use Rattle.safety.proofs.Fronts.{◌≼◌, whole, chain, line, shorter, same, back_at, grow, takes, cut, step, last, last_push, before_gap, to_gap}
 use Rattle.safety.proofs.Fronts.◌≼◌.{none}
-use Rattle.safety.proofs.Done.{is_true, put_same, CommitDone, elect_done, elect_refused, append_done, append_refused, copy_done, copy_refused, commit_done, commit_refused, rise_done, rise_refused, holder_has, held_committed}
+use Rattle.raft_log.proofs.Meaning.{put_same}
+use Rattle.safety.proofs.Done.{is_true, CommitDone, elect_done, elect_refused, append_done, append_refused, copy_done, copy_refused, commit_done, commit_refused, rise_done, rise_refused, holder_has, held_committed}
 
 -- ---- one value put into a function, and the greatest count
 
