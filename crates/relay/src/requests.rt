@@ -50,7 +50,7 @@ impl Relay {
         ensures { (self.new, result) ≡ correction_request self.old m.now }
     {
         let opened = self.opened.as_mut().ok_or(RelayFault::Closed)?;
-        // Not `checked_add`: its refusal wants the bound of a number behind a borrow, which no proof can name there.
+        // Not `checked_add`: where it refuses, the proof that the number is 65,535 did not close.
         if opened.sequence == u16::MAX {
             return Err(RelayFault::NumbersUsedUp);
         }
