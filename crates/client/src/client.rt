@@ -6,15 +6,16 @@ use kinds::RecordKind;
 use relay::{Body, Message, Outcome};
 
 // What a client waits for.
-#[derive(Clone, Copy, PartialEq, Eq)]
+#[derive(Clone, Copy, Default, PartialEq, Eq)]
 pub enum Waiting {
+    #[default]
     Nothing,
     Reading { star: u16 },
     Correction { star: u16 },
 }
 
 // The number is that of the client's last request, 0 before the first.
-#[derive(Clone, Copy)]
+#[derive(Clone, Copy, Default)]
 pub struct Client {
     pub number: u16,
     pub waiting: Waiting,

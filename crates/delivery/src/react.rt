@@ -1,4 +1,4 @@
-ghost use Rattle.std.specs.Prelude.{◌≡◌, ℕ, ◌<◌, length};
+ghost use Rattle.std.specs.Prelude.{◌≡◌, length};
 ghost use Rattle.copies.specs.Shape.{Shaped};
 ghost use Rattle.delivery.specs.Kinds.{at_read_request, at_correction_request, at_copy_read, at_leader_read, at_correction, at_installed, at_leader_reply, at_copy_reply, at_correction_reply, at_answer};
 

@@ -1,4 +1,4 @@
-ghost use Rattle.std.specs.Prelude.{◌≡◌, ℕ, ◌<◌, length};
+ghost use Rattle.std.specs.Prelude.{◌≡◌, length};
 ghost use Rattle.copies.specs.Shape.{Shaped};
 ghost use Rattle.delivery.specs.Deliver.{react as reaction_to, deliver_step};
 
@@ -64,11 +64,11 @@ pub fn deliver<V: RecordKind, R: VoteRule>(
 {
     s.check_entries(entries)?;
     s.check_messages(messages)?;
-    s.check_place(place)?;
-    let m = state::take_message(&mut s.table, messages, place as u16);
+    let place = s.check_place(place)?;
+    let m = s.table.take(messages, place);
     match react_to(s, entries, &m) {
         Ok(Reaction::Sends(sent)) => {
-            state::put_message(&mut s.table, messages, sent);
+            s.table.put(messages, sent);
             Ok(Effect::Done(0))
         }
         Ok(Reaction::Answers(answer)) => Ok(Effect::Answered(answer)),

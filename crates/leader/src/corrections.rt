@@ -1,4 +1,4 @@
-ghost use Rattle.std.specs.Prelude.{◌≡◌, ℕ, ◌<◌, length};
+ghost use Rattle.std.specs.Prelude.{◌≡◌, length};
 ghost use Rattle.copies.specs.Shape.{Shaped};
 ghost use Rattle.leader.specs.Corrections.{told, lawful_value, correction_step, installed_step, reply_step};
 

@@ -1,4 +1,4 @@
-ghost use Rattle.std.specs.Prelude.{◌≡◌, ℕ, ◌<◌, length};
+ghost use Rattle.std.specs.Prelude.{◌≡◌, ◌<◌, length};
 ghost use Rattle.copies.specs.Shape.{Shaped};
 ghost use Rattle.leader.specs.Reads.{found, copy_read, leader_read};
 
@@ -9,6 +9,8 @@ use copies::{Logs, Replicas};
 use entries::Entry;
 use kinds::RecordKind;
 use relay::{Body, Message};
+
+// Where the logs change, struct and slice stand apart and must fit, as at the calls of the log.
 
 // The reply to a reading, with what was found.
 fn read_reply<V: RecordKind>(m: &Message<V>, body: Body, value: Option<V>) -> Message<V>

@@ -1,5 +1,4 @@
-ghost use Rattle.std.specs.Prelude.{◌≡◌, ℕ, ◌<◌, ◌≤◌, length, IfOk, Some};
-ghost use Rattle.copies.specs.Shape.{Shaped};
+ghost use Rattle.std.specs.Prelude.{◌≡◌, ℕ, ◌<◌, IfOk, Some};
 ghost use Rattle.leader.specs.Sessions.{session_of, present, zone_row, zone_rows, open_step};
 
 use crate::fault::LeaderFault;
@@ -66,14 +65,11 @@ pub fn open_session<V: RecordKind>(
 {
     let logs = copies.logs;
     let leader = raft_log::leader_of(logs)?;
-    if lead.part == 65535 {
-        return Err(LeaderFault::PartsUsedUp);
-    }
+    let part = lead.part.checked_add(1).ok_or(LeaderFault::PartsUsedUp)?;
     let holders = copies.holders(leader, logs.counts[leader as usize].known);
     let rows = zone_rows(copies, leader, holders);
-    lead.part = lead.part + 1;
-    lead.last = 0;
-    let session = session_of(logs.term, lead.part);
+    *lead = Lead { part, last: 0 };
+    let session = session_of(logs.term, part);
     Ok(Snapshot {
         session,
         leader,

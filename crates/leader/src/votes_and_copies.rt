@@ -1,4 +1,4 @@
-ghost use Rattle.std.specs.Prelude.{◌≡◌, ℕ, ◌<◌, length};
+ghost use Rattle.std.specs.Prelude.{◌≡◌, ◌<◌, length};
 ghost use Rattle.copies.specs.Shape.{Shaped};
 ghost use Rattle.leader.specs.Steps.{elect_step, copy_step, commit_step};
 
@@ -8,6 +8,8 @@ use copies::Logs;
 use entries::Entry;
 use kinds::RecordKind;
 use votes::VoteRule;
+
+// Where the logs change, struct and slice stand apart and must fit, as at the calls of the log.
 
 // A new leader begins without a session.
 pub fn elect<V: RecordKind, R: VoteRule>(
@@ -27,6 +29,7 @@ pub fn elect<V: RecordKind, R: VoteRule>(
     Ok(term)
 }
 
+// Only passes the log's fault up inside the leader's.
 pub fn copy<V: RecordKind>(
     logs: &mut Logs,
     entries: &mut [Entry<V>],
@@ -39,6 +42,7 @@ pub fn copy<V: RecordKind>(
     Ok(raft_log::copy(logs, entries, r)?)
 }
 
+// Only passes the log's fault up inside the leader's.
 pub fn commit<V: RecordKind, R: VoteRule>(
     rule: R,
     logs: &mut Logs,

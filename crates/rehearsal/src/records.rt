@@ -10,6 +10,8 @@ use state::{Service, ServiceFault};
 use std::alloc::{AllocError, Global};
 use votes::{Majority, VoteRule};
 
+// Entries, messages and kept values stand apart from the service, in memory that is lent to each step.
+
 // The code that the answer begins with: that of the record, 0 of a short one.
 fn code_of(bytes: &[u8]) -> u8
     ensures { result ≡ code_of bytes.now }
@@ -57,6 +59,7 @@ pub fn rehearse_input<V: RecordKind>(heap: Global, input: &[u8]) -> Result<Vec<u
     let mut messages = state::filled(heap, state::blank_message::<V>(), 32)?;
     let mut kept = state::filled(heap, V::blank(), 4)?;
     let made = state::new_service(Majority::new(3), 64, 32, 4, &entries, &messages, &kept);
+    // These sizes are never refused.
     let Ok(mut s) = made else {
         return Ok(Vec::new(heap));
     };

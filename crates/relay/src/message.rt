@@ -34,6 +34,7 @@ pub enum Body {
         sequence: u16,
         outcome: Outcome,
         // A reply that is not fresh has its index alone.
+        // Beside the outcome: an answer has the outcome without it, so within would need a second enum.
         settlement: Settlement,
     },
     ReadAnswer,

@@ -3,7 +3,7 @@ ghost use Rattle.relay.specs.Delivery.{check_session, leader_reply, copy_reply, 
 
 use crate::fault::RelayFault;
 use crate::message::{Body, Message, Outcome};
-use crate::requests::send_on;
+use crate::requests::forward;
 use crate::rows::{Relay, Settlement, zone_of};
 use entries::Stamp;
 use kinds::RecordKind;
@@ -25,7 +25,7 @@ impl Relay {
     {
         self.opened.as_ref().ok_or(RelayFault::Closed)?;
         check_session(self.session, m.session)?;
-        Ok(send_on(m, 0, Body::ReadAnswer))
+        Ok(forward(m, 0, Body::ReadAnswer))
     }
 
     // A copy's read reply goes to the client if the zone is settled and the stamps are equal;
@@ -41,7 +41,7 @@ impl Relay {
         check_session(self.session, m.session)?;
         let row = opened.rows[zone_of(m.star)];
         match row.settled {
-            Some(settlement) if settlement.stamp == stamp => Ok(send_on(m, 0, Body::ReadAnswer)),
+            Some(settlement) if settlement.stamp == stamp => Ok(forward(m, 0, Body::ReadAnswer)),
             _ => Ok(Message {
                 session: self.session,
                 body: Body::LeaderRead,
@@ -68,6 +68,6 @@ impl Relay {
             row.settled = Some(settlement);
         }
         let index = settlement.index;
-        Ok(send_on(m, 0, Body::CorrectionAnswer { outcome, index }))
+        Ok(forward(m, 0, Body::CorrectionAnswer { outcome, index }))
     }
 }

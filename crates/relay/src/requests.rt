@@ -1,6 +1,4 @@
-ghost use Rattle.std.specs.Prelude.{◌≡◌, ℕ, ◌<◌};
-ghost use Rattle.entries.specs.Search.{zone_of};
-ghost use Rattle.relay.specs.Rows.{unsettled_row};
+ghost use Rattle.std.specs.Prelude.{◌≡◌};
 ghost use Rattle.relay.specs.Delivery.{sent, read_request, correction_request};
 
 use crate::choice::choose;
@@ -9,8 +7,9 @@ use crate::message::{Body, Message};
 use crate::rows::{Relay, Row, zone_of};
 use kinds::RecordKind;
 
-// The request goes on under the relay's session.
-pub fn send_on<V: RecordKind>(m: &Message<V>, session: u32, body: Body) -> Message<V>
+// The message goes on for the same client, number, star and value: a request under the relay's
+// session, a reply under session 0.
+pub fn forward<V: RecordKind>(m: &Message<V>, session: u32, body: Body) -> Message<V>
     ensures { result ≡ sent m.now session body }
 {
     Message {
@@ -33,14 +32,14 @@ impl Relay {
         let opened = self.opened.as_mut().ok_or(RelayFault::Closed)?;
         let row = opened.rows[zone_of(m.star)];
         let Some(settlement) = row.settled else {
-            return Ok(send_on(m, session, Body::LeaderRead));
+            return Ok(forward(m, session, Body::LeaderRead));
         };
         let Some(copy) = choose(copies, settlement.holders, opened.turn) else {
-            return Ok(send_on(m, session, Body::LeaderRead));
+            return Ok(forward(m, session, Body::LeaderRead));
         };
         opened.turn = (copy + 1) % copies;
         let index = settlement.index;
-        Ok(send_on(m, session, Body::CopyRead { copy, index }))
+        Ok(forward(m, session, Body::CopyRead { copy, index }))
     }
 
     // A correction gets the next sequence number, and its zone is unsettled.
@@ -51,6 +50,7 @@ impl Relay {
         ensures { (self.new, result) ≡ correction_request self.old m.now }
     {
         let opened = self.opened.as_mut().ok_or(RelayFault::Closed)?;
+        // Not `checked_add`: where it refuses, the proof that the number is 65,535 did not close.
         if opened.sequence == u16::MAX {
             return Err(RelayFault::NumbersUsedUp);
         }
@@ -60,6 +60,6 @@ impl Relay {
             latest: sequence,
             settled: None,
         };
-        Ok(send_on(m, self.session, Body::Correction { sequence }))
+        Ok(forward(m, self.session, Body::Correction { sequence }))
     }
 }

@@ -6,6 +6,8 @@ use kinds::RecordKind;
 use state::{Service, ServiceFault};
 use votes::VoteRule;
 
+// Entries stand apart from the service, in memory that is lent to each step.
+
 // Makes a copy leader of the next term by the votes of a set of copies; the answer is the term.
 pub fn elect<V: RecordKind, R: VoteRule>(
     s: &mut Service<R>,

@@ -7,6 +7,8 @@ use relay::Message;
 use state::{Service, ServiceFault};
 use votes::VoteRule;
 
+// Entries and messages stand apart from the service, in memory that is lent to each step.
+
 // The leader opens its next session, and its snapshot is kept; the answer is the session.
 pub fn open<V: RecordKind, R: VoteRule>(
     s: &mut Service<R>,
@@ -44,6 +46,6 @@ pub fn reply<V: RecordKind, R: VoteRule>(
 {
     s.check_messages(messages)?;
     let m = fresh_reply(s, entries, i)?;
-    state::post(&mut s.table, messages, m)?;
+    s.table.post(messages, m)?;
     Ok(i)
 }

@@ -1,4 +1,4 @@
-ghost use Rattle.std.specs.Prelude.{◌≡◌, ℕ, ◌<◌, ◌≤◌, length, OnOk};
+ghost use Rattle.std.specs.Prelude.{◌≡◌, ◌<◌, ◌≤◌, length, OnOk};
 ghost use Rattle.requests.specs.Clients.{begin_of, begin_correction, read_step, correct_step};
 
 use client::{Client, Waiting};
@@ -6,6 +6,8 @@ use kinds::RecordKind;
 use relay::Message;
 use state::{Service, ServiceFault};
 use votes::VoteRule;
+
+// Messages and kept values stand apart from the service, in memory that is lent to each step.
 
 // The number of the client's next request, if there is such a client and star and it may make one.
 fn begin<R: VoteRule>(s: &Service<R>, client: u8, star: u32) -> Result<u16, ServiceFault>
@@ -31,11 +33,8 @@ pub fn read<V: RecordKind, R: VoteRule>(
     s.check_messages(messages)?;
     let number = begin(s, client, star)?;
     let star = star as u16;
-    state::post(
-        &mut s.table,
-        messages,
-        client::read_request(client, number, star),
-    )?;
+    s.table
+        .post(messages, client::read_request(client, number, star))?;
     s.clients[client as usize] = Client {
         number,
         waiting: Waiting::Reading { star },
@@ -75,8 +74,7 @@ pub fn correct<V: RecordKind, R: VoteRule>(
     s.check_messages(messages)?;
     let number = begin_correction(s, kept, client, star, value)?;
     let star = star as u16;
-    state::post(
-        &mut s.table,
+    s.table.post(
         messages,
         client::correction_request(client, number, star, value),
     )?;

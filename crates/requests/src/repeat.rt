@@ -6,6 +6,8 @@ use relay::Message;
 use state::{Service, ServiceFault};
 use votes::VoteRule;
 
+// Messages and kept values stand apart from the service, in memory that is lent to each step.
+
 // The client's open request.
 fn open_request<V: RecordKind, R: VoteRule>(
     s: &Service<R>,
@@ -30,7 +32,7 @@ pub fn again<V: RecordKind, R: VoteRule>(
 {
     s.check_messages(messages)?;
     let m = open_request(s, kept, client)?;
-    state::post(&mut s.table, messages, m)?;
+    s.table.post(messages, m)?;
     Ok(m.number)
 }
 

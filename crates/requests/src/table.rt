@@ -6,6 +6,8 @@ use relay::{Body, Message};
 use state::{Service, ServiceFault};
 use votes::VoteRule;
 
+// Messages stand apart from the service, in memory that is lent to each step.
+
 // Opens the relay with the snapshot and tells the leader; the answer is the session.
 pub fn install<V: RecordKind, R: VoteRule>(
     s: &mut Service<R>,
@@ -16,14 +18,11 @@ pub fn install<V: RecordKind, R: VoteRule>(
     s.check_messages(messages)?;
     let snapshot = s.relay.installable(s.snapshot)?;
     let m = Message {
-        client: 0,
-        number: 0,
-        star: 0,
         session: snapshot.session,
         body: Body::Installed,
-        value: None,
+        ..state::blank_message()
     };
-    state::post(&mut s.table, messages, m)?;
+    s.table.post(messages, m)?;
     s.relay.install(snapshot);
     Ok(snapshot.session)
 }
@@ -44,8 +43,8 @@ pub fn lose<V: RecordKind, R: VoteRule>(
     ensures { (s.new, messages.new, result) ≡ lose_step s.old messages.old place }
 {
     s.check_messages(messages)?;
-    s.check_place(place)?;
-    let _ = state::take_message(&mut s.table, messages, place as u16);
+    let place = s.check_place(place)?;
+    let _ = s.table.take(messages, place);
     Ok(())
 }
 
@@ -58,8 +57,8 @@ pub fn double<V: RecordKind, R: VoteRule>(
     ensures { (s.new, messages.new, result) ≡ double_step s.old messages.old place }
 {
     s.check_messages(messages)?;
-    s.check_place(place)?;
+    let place = s.check_place(place)?;
     let m = messages[place as usize];
-    state::post(&mut s.table, messages, m)?;
+    s.table.post(messages, m)?;
     Ok(s.table.count)
 }

@@ -32,9 +32,9 @@ unseated n c = nat_le n c || nat_le 8 c
 abbrev pub seat_of : ℕ → ℕ → Option ℕ
 seat_of n c = cond (unseated n c) None (Some c)
 
--- a step is refused where no message is at the place
-abbrev pub occupied : Table → ℕ → Result (Unit {0}) ServiceFault
-occupied t i = cond (nat_le t.count i) (Err NoSuch) (Ok tt)
+-- the place, if a message is at it
+abbrev pub occupied : Table → ℕ → Result ℕ ServiceFault
+occupied t i = cond (nat_le t.count i) (Err NoSuch) (Ok i)
 
 abbrev pub with_count : Table → ℕ → Table
 with_count t n = record { size = t.size; count = n }

@@ -13,4 +13,3 @@ pub use fault::{Class, Layer, ServiceFault};
 pub use memory::{blank_entry, blank_message, filled};
 pub use service::{Service, Table};
 pub use shape::{new_service, seats_fit};
-pub use table::{post, put_message, take_message};

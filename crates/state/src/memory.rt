@@ -7,7 +7,7 @@ use kinds::RecordKind;
 use relay::{Body, Message};
 use std::alloc::{AllocError, Global};
 
-// Memory to lend for n of what is like x.
+// A vector of n values, each x, to lend.
 pub fn filled<T: Copy>(heap: Global, x: T, n: usize) -> Result<Vec<T>, AllocError>
     ensures { IfOk result (λ v. vec_len v ≡ n) }
 {

@@ -1,11 +1,11 @@
-ghost use Rattle.std.specs.Prelude.{◌≡◌, ℕ, ◌<◌, ◌≤◌, true, length, is_ok, OnOk, IfSome};
+ghost use Rattle.std.specs.Prelude.{◌≡◌, ◌<◌, ◌≤◌, true, length, is_ok, OnOk, IfSome};
 ghost use Rattle.copies.specs.Shape.{shaped, Shaped};
 ghost use Rattle.state.specs.Memory.{table_fits, TableShaped, seats_fit, enough, occupied, seat_of};
 ghost use Rattle.state.specs.Parts.{new_step};
 
 use crate::fault::ServiceFault;
 use crate::service::{Service, Table};
-use client::{Client, Waiting};
+use client::Client;
 use copies::Logs;
 use entries::Entry;
 use kinds::RecordKind;
@@ -19,10 +19,7 @@ impl Table {
         ensures value { result ≡ table_fits self.now n }
         ensures means { result ≡ true → TableShaped self.now n }
     {
-        (self.size >= 1)
-            & (self.size <= 256)
-            & (self.count <= self.size)
-            & (self.size as usize <= n)
+        (1..=256).contains(&self.size) & (self.count <= self.size) & (self.size as usize <= n)
     }
 }
 
@@ -31,7 +28,7 @@ pub fn seats_fit(seats: u8, n: usize) -> bool
     ensures value { result ≡ seats_fit seats n }
     ensures means { result ≡ true → (seats ≤ 8) × (seats ≤ n) }
 {
-    (seats >= 1) & (seats <= 8) & (seats as usize <= n)
+    (1..=8).contains(&seats) & (seats as usize <= n)
 }
 
 // Refuses where the lent memory is not enough.
@@ -73,13 +70,14 @@ impl<R> Service<R> {
         enough(seats_fit(self.seats, kept.len()))
     }
 
-    // Refuses where there is no message at the place.
-    pub fn check_place(&self, place: u32) -> Result<(), ServiceFault>
+    // The place, if there is a message at it.
+    pub fn check_place(&self, place: u32) -> Result<u16, ServiceFault>
         ensures value { result ≡ occupied self.now.table place }
         ensures means { OnOk result (place < self.now.table.count) }
     {
+        // Not `u16::try_from`: where it fails, the proof that such a place is beyond the count did not close.
         if place < self.table.count as u32 {
-            Ok(())
+            Ok(place as u16)
         } else {
             Err(ServiceFault::NoSuch)
         }
@@ -90,11 +88,7 @@ impl<R> Service<R> {
         ensures value { result ≡ seat_of self.now.seats client }
         ensures bound { IfSome result (λ k. (k < 8) × (k < self.now.seats)) }
     {
-        if (client < self.seats) & (client < 8) {
-            Some(client as usize)
-        } else {
-            None
-        }
+        ((client < self.seats) & (client < 8)).then_some(client as usize)
     }
 }
 
@@ -116,17 +110,13 @@ pub fn new_service<V: RecordKind, R: VoteRule>(
     let table = Table { size, count: 0 };
     enough(table.fits(messages.len()))?;
     enough(seats_fit(seats, kept.len()))?;
-    let client = Client {
-        number: 0,
-        waiting: Waiting::Nothing,
-    };
     Ok(Service {
         rule,
         logs,
-        lead: Lead { part: 0, last: 0 },
+        lead: Lead::default(),
         snapshot: None,
         relay: Relay::closed(0),
-        clients: [client; 8],
+        clients: [Client::default(); 8],
         seats,
         table,
     })
