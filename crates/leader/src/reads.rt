@@ -34,7 +34,7 @@ pub fn copy_read<V: RecordKind>(
 {
     raft_log::rise(logs, entries, copy, index)?;
     let known = logs.over(entries).known_log(copy);
-    let stamp = entries::zone_stamp(known, (m.star / 4096) as u8);
+    let stamp = entries::zone_stamp(known, entries::zone_of(m.star));
     let value = entries::last_value(known, m.star);
     Ok(read_reply(m, Body::CopyReply { copy, stamp }, value))
 }

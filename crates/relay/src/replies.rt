@@ -4,8 +4,8 @@ ghost use Rattle.relay.specs.Delivery.{check_session, leader_reply, copy_reply, 
 use crate::fault::RelayFault;
 use crate::message::{Body, Message, Outcome};
 use crate::requests::forward;
-use crate::rows::{Relay, Settlement, zone_of};
-use entries::Stamp;
+use crate::rows::{Relay, Settlement};
+use entries::{Stamp, zone_of};
 use kinds::RecordKind;
 
 // A reply is taken only in its own session.
@@ -39,7 +39,7 @@ impl Relay {
     {
         let opened = self.opened.as_ref().ok_or(RelayFault::Closed)?;
         check_session(self.session, m.session)?;
-        let row = opened.rows[zone_of(m.star)];
+        let row = opened.rows[zone_of(m.star) as usize];
         match row.settled {
             Some(settlement) if settlement.stamp == stamp => Ok(forward(m, 0, Body::ReadAnswer)),
             _ => Ok(Message {
@@ -63,7 +63,7 @@ impl Relay {
     {
         let opened = self.opened.as_mut().ok_or(RelayFault::Closed)?;
         check_session(self.session, m.session)?;
-        let row = &mut opened.rows[zone_of(m.star)];
+        let row = &mut opened.rows[zone_of(m.star) as usize];
         if outcome == Outcome::Fresh && sequence == row.latest {
             row.settled = Some(settlement);
         }

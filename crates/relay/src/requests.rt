@@ -4,7 +4,8 @@ ghost use Rattle.relay.specs.Delivery.{sent, read_request, correction_request};
 use crate::choice::choose;
 use crate::fault::RelayFault;
 use crate::message::{Body, Message};
-use crate::rows::{Relay, Row, zone_of};
+use crate::rows::{Relay, Row};
+use entries::zone_of;
 use kinds::RecordKind;
 
 // The message goes on for the same client, number, star and value: a request under the relay's
@@ -30,7 +31,7 @@ impl Relay {
     {
         let session = self.session;
         let opened = self.opened.as_mut().ok_or(RelayFault::Closed)?;
-        let row = opened.rows[zone_of(m.star)];
+        let row = opened.rows[zone_of(m.star) as usize];
         let Some(settlement) = row.settled else {
             return Ok(forward(m, session, Body::LeaderRead));
         };
@@ -56,7 +57,7 @@ impl Relay {
         }
         opened.sequence += 1;
         let sequence = opened.sequence;
-        opened.rows[zone_of(m.star)] = Row {
+        opened.rows[zone_of(m.star) as usize] = Row {
             latest: sequence,
             settled: None,
         };

@@ -1,5 +1,4 @@
 ghost use Rattle.std.specs.Prelude.{◌≡◌, ◌<◌};
-ghost use Rattle.entries.specs.Search.{zone_of};
 ghost use Rattle.relay.specs.Rows.{closed, installed, installable};
 
 use crate::fault::RelayFault;
@@ -44,14 +43,6 @@ pub struct Opened {
 pub struct Relay {
     pub session: u32,
     pub opened: Option<Opened>,
-}
-
-// The zone of a star, as the place of its row.
-pub fn zone_of(star: u16) -> usize
-    ensures value { result ≡ zone_of star }
-    ensures bound { result < 16 }
-{
-    (star / 4096) as usize
 }
 
 impl Relay {
