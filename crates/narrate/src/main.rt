@@ -10,14 +10,14 @@ fn tell_text(rt: &HostRuntime, text: &[u8]) -> anyhow::Result<()> {
     let heap = rt.alloc();
     let mut out = String::new(heap);
     tell(&mut out, heap, text)?;
-    rt.print(out.as_str())?;
+    rt.print(&out)?;
     Ok(())
 }
 
 fn tell_file(rt: &HostRuntime, name: &str) -> anyhow::Result<()> {
     println!(rt; "== {name} ==")?;
     match fs::read(rt, name) {
-        Ok(text) => tell_text(rt, text.as_slice()),
+        Ok(text) => tell_text(rt, &text),
         Err(_) => {
             println!(rt; "cannot open the file {name}")?;
             Ok(())
@@ -28,7 +28,7 @@ fn tell_file(rt: &HostRuntime, name: &str) -> anyhow::Result<()> {
 fn tell_input(rt: &HostRuntime) -> anyhow::Result<()> {
     let mut text = Vec::new(rt.alloc());
     rt.stdin().read_to_end(&mut text)?;
-    tell_text(rt, text.as_slice())
+    tell_text(rt, &text)
 }
 
 fn tell_files(rt: &HostRuntime, names: Args) -> anyhow::Result<()> {
@@ -36,10 +36,10 @@ fn tell_files(rt: &HostRuntime, names: Args) -> anyhow::Result<()> {
     let Some(first) = names.next() else {
         return tell_input(rt);
     };
-    tell_file(rt, first.as_str())?;
+    tell_file(rt, &first)?;
     for name in names {
         println!(rt)?;
-        tell_file(rt, name.as_str())?;
+        tell_file(rt, &name)?;
     }
     Ok(())
 }

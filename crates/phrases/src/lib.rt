@@ -1,5 +1,6 @@
 // What the service holds, in words: sessions, stamps, sets, places, entries, rows, clients and messages.
-// Each text is a type of its own, since the types that it tells of belong to crates with no words.
+// Each text is a type of its own: these words for people stand here, and not beside the proofs of the
+// crates below.
 #![tactic(auto)]
 
 mod messages;

@@ -39,10 +39,8 @@ impl fmt::Display for SetText {
         }
         let one = votes::set_size(8, self.0) == 1;
         f.write_str(if one { "copy" } else { "copies" })?;
-        for copy in 0..8u8 {
-            if votes::has(self.0, copy) {
-                write!(f, " {copy}")?;
-            }
+        for copy in (0..8u8).filter(|copy| votes::has(self.0, *copy)) {
+            write!(f, " {copy}")?;
         }
         Ok(())
     }

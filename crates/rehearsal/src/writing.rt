@@ -30,7 +30,7 @@ pub fn fault_record(code: u8, fault: ServiceFault) -> [u8; 24]
         code,
         fault.class() as u8,
         fault.number(),
-        fault.layer() as u8,
+        fault.layer().number(),
         0,
         [0; 16],
     )

@@ -33,10 +33,7 @@ impl Memory {
 
     // The message at a place, if one of the `count` messages under way stands there.
     pub fn message(&self, count: u16, place: u32) -> Option<Message<Place>> {
-        if place < count as u32 {
-            self.messages.get(place as usize).copied()
-        } else {
-            None
-        }
+        let under_way = self.messages.iter().take(count as usize);
+        under_way.copied().nth(place as usize)
     }
 }

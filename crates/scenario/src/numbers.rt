@@ -20,6 +20,7 @@ pub fn decimal(word: &[u8], most: u32) -> Option<u32>
     if word.is_empty() {
         return None;
     }
+    // A loop: with `try_fold` the proof that the digits so far make the number did not close.
     let mut n = 0;
     for byte in word {
         n = with_digit(n, *byte, most)?;

@@ -1,6 +1,8 @@
-ghost use Rattle.std.specs.Prelude.{◌≤◌, length};
+ghost use Rattle.std.specs.Prelude.{◌≤◌, length, Some};
+ghost use Rattle.scenario.specs.Words.{rule_word};
 
 use crate::words::Words;
+use std::fmt;
 
 #[derive(Clone, Copy)]
 pub enum Rule {
@@ -18,6 +20,17 @@ impl Rule {
     }
 }
 
+impl fmt::Display for Rule {
+    ghost output = { λ rule. Some (rule_word rule) };
+
+    fn fmt<W: fmt::Write>(&self, f: &mut fmt::Formatter<W>) -> fmt::Result {
+        f.write_str(match self {
+            Rule::Majority => "majority",
+            Rule::EveryCopy => "every",
+        })
+    }
+}
+
 // The sizes of a service, and its vote rule.
 #[derive(Clone, Copy)]
 pub struct Sizes {
@@ -26,29 +39,6 @@ pub struct Sizes {
     pub log: u16,
     pub messages: u16,
     pub clients: u8,
-}
-
-// What a line may choose.
-#[derive(Clone, Copy)]
-enum Part {
-    Copies,
-    Rule,
-    Log,
-    Messages,
-    Clients,
-}
-
-impl Part {
-    fn read(word: &[u8]) -> Option<Part> {
-        match word {
-            b"copies" => Some(Part::Copies),
-            b"rule" => Some(Part::Rule),
-            b"log" => Some(Part::Log),
-            b"messages" => Some(Part::Messages),
-            b"clients" => Some(Part::Clients),
-            _ => None,
-        }
-    }
 }
 
 impl Sizes {
@@ -63,16 +53,17 @@ impl Sizes {
         }
     }
 
-    // Reads one part.
-    fn choose(&mut self, part: Part, words: &mut Words) -> Option<()>
+    // Reads the part that the word names.
+    fn choose(&mut self, part: &[u8], words: &mut Words) -> Option<()>
         ensures left { length words.new.rest.now ≤ length words.old.rest.now }
     {
         match part {
-            Part::Copies => self.copies = words.unsigned()?,
-            Part::Rule => self.rule = Rule::read(words.next()?)?,
-            Part::Log => self.log = words.unsigned()?,
-            Part::Messages => self.messages = words.unsigned()?,
-            Part::Clients => self.clients = words.unsigned()?,
+            b"copies" => self.copies = words.unsigned()?,
+            b"rule" => self.rule = Rule::read(words.next()?)?,
+            b"log" => self.log = words.unsigned()?,
+            b"messages" => self.messages = words.unsigned()?,
+            b"clients" => self.clients = words.unsigned()?,
+            _ => return None,
         }
         Some(())
     }
@@ -80,8 +71,8 @@ impl Sizes {
     // The sizes that the rest of the line chooses; what it leaves out is as in `standard`.
     pub fn read(words: &mut Words) -> Option<Sizes> {
         let mut sizes = Sizes::standard();
-        while let Some(word) = words.next() {
-            sizes.choose(Part::read(word)?, words)?;
+        while let Some(part) = words.next() {
+            sizes.choose(part, words)?;
         }
         Some(sizes)
     }

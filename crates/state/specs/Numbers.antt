@@ -95,6 +95,11 @@ layer_name at.Leader = codes "leader"
 layer_name at.Relay = codes "relay"
 layer_name at.Client = codes "client"
 
+-- what a person reads for the class
+abbrev pub class_name : Class → List ℕ
+class_name Refused = codes "refused"
+class_name Dropped = codes "dropped"
+
 -- the number of the layer that found the fault
 abbrev pub layer_of : ServiceFault → ℕ
 layer_of f = layer_number (found_in f)

@@ -1,5 +1,5 @@
 ghost use Rattle.std.specs.Prelude.{◌≡◌, Some};
-ghost use Rattle.state.specs.Numbers.{log_number, leader_number, relay_number, client_number, number_of, found_in, layer_name, class_of};
+ghost use Rattle.state.specs.Numbers.{log_number, leader_number, relay_number, client_number, number_of, found_in, layer_number, layer_name, class_name, class_of};
 ghost use Rattle.state.specs.declared.fault.ServiceFault.TheVariants.{Leader, Relay, Client};
 
 use client::ClientFault;
@@ -29,7 +29,18 @@ pub enum Class {
     Dropped = 2,
 }
 
-// Where a fault is found. The layer's number is `layer as u8`.
+impl fmt::Display for Class {
+    ghost output = { λ class. Some (class_name class) };
+
+    fn fmt<W: fmt::Write>(&self, f: &mut fmt::Formatter<W>) -> fmt::Result {
+        f.write_str(match self {
+            Class::Refused => "refused",
+            Class::Dropped => "dropped",
+        })
+    }
+}
+
+// Where a fault is found.
 #[derive(Clone, Copy, Debug, PartialEq, Eq)]
 pub enum Layer {
     Service = 1,
@@ -37,6 +48,15 @@ pub enum Layer {
     Leader = 3,
     Relay = 4,
     Client = 5,
+}
+
+impl Layer {
+    // The number by which the layer is known everywhere.
+    pub fn number(self) -> u8
+        ensures { result ≡ layer_number self }
+    {
+        self as u8
+    }
 }
 
 impl fmt::Display for Layer {
@@ -53,7 +73,7 @@ impl fmt::Display for Layer {
     }
 }
 
-// By hand: what a `?` makes of a fault stands in `from_gives`, which no derive writes.
+// These three by hand: what a `?` makes of a fault stands in `from_gives`, which no derive writes.
 impl From<LeaderFault> for ServiceFault {
     ghost from_gives = { λ e r. r ≡ Leader e };
 

@@ -1,4 +1,4 @@
-use scenario::{Name, Rule, Sizes};
+use scenario::{Name, Sizes};
 use std::fmt;
 
 // The sizes of a service, in the words of the line that chooses them.
@@ -14,10 +14,6 @@ impl fmt::Display for SizesText {
             messages,
             clients,
         } = self.0;
-        let rule = match rule {
-            Rule::Majority => "majority",
-            Rule::EveryCopy => "every",
-        };
         write!(f, "service copies {copies} rule {rule} log {log} ")?;
         write!(f, "messages {messages} clients {clients}")
     }

@@ -15,10 +15,10 @@ pub const INDENT: &str = "         ";
 // A refusal or a drop, with its number, its layer and its reason.
 pub fn tell_fault(
     out: &mut String,
-    class: &str,
     fault: ServiceFault,
     call: &Call<Place>,
 ) -> Result<(), AllocError> {
+    let class = fault.class();
     let number = fault.number();
     let layer = fault.layer();
     let reason = sentence(fault, call);
@@ -51,7 +51,7 @@ fn tell_row(out: &mut String, relay: &Relay, star: u16) -> Result<(), AllocError
     let Some(opened) = &relay.opened else {
         return Ok(());
     };
-    let zone = star / 4096;
+    let zone = entries::zone_of(star);
     let row = RowText(opened.rows[zone as usize]);
     writeln!(out, "{INDENT}zone {zone}: {row}")
 }
@@ -65,13 +65,13 @@ fn tell_unsettled(out: &mut String, rows: &[Row]) -> Result<(), AllocError> {
             write!(out, " {zone}")?;
         }
     }
-    writeln!(out, "")
+    writeln!(out)
 }
 
 fn tell_opened(
     out: &mut String,
     session: u32,
-    snapshot: &Option<Snapshot>,
+    snapshot: Option<&Snapshot>,
 ) -> Result<(), AllocError> {
     write!(
         out,
@@ -95,15 +95,17 @@ impl<R: VoteRule> Story<'_, R> {
     }
 
     fn tell_appended(&mut self) -> Result<(), AllocError> {
-        match self.service.logs.leader {
-            Some(leader) if leader < 7 => {
-                let length = self.service.logs.counts[leader as usize].length;
-                writeln!(
-                    self.out,
-                    "{INDENT}done: copy {leader} appends entry {length} to its log"
-                )
-            }
-            _ => writeln!(self.out, "{INDENT}done"),
+        let logs = &self.service.logs;
+        let led = logs
+            .leader
+            .and_then(|leader| Some((leader, logs.counts.get(leader as usize)?)));
+        match led {
+            Some((leader, counts)) => writeln!(
+                self.out,
+                "{INDENT}done: copy {leader} appends entry {} to its log",
+                counts.length
+            ),
+            None => writeln!(self.out, "{INDENT}done"),
         }
     }
 
@@ -113,10 +115,16 @@ impl<R: VoteRule> Story<'_, R> {
             Body::CorrectionRequest | Body::CorrectionReply { .. } => {
                 tell_row(self.out, &self.service.relay, m.star)
             }
-            Body::CopyRead { copy, .. } if copy < 7 => {
-                let known = self.service.logs.counts[copy as usize].known;
-                writeln!(self.out, "{INDENT}copy {copy}: known count {known}")
-            }
+            Body::CopyRead { copy, .. } => match self.service.logs.counts.get(copy as usize) {
+                Some(counts) => {
+                    writeln!(
+                        self.out,
+                        "{INDENT}copy {copy}: known count {}",
+                        counts.known
+                    )
+                }
+                None => Ok(()),
+            },
             _ => Ok(()),
         }
     }
@@ -136,7 +144,7 @@ impl<R: VoteRule> Story<'_, R> {
         let out = &mut *self.out;
         match call {
             Call::Elect { copy, .. } => writeln!(out, "{INDENT}done: copy {copy} leads term {n}"),
-            Call::Open => tell_opened(out, n, &self.service.snapshot),
+            Call::Open => tell_opened(out, n, self.service.snapshot.as_ref()),
             Call::Install => writeln!(
                 out,
                 "{INDENT}done: the relay is open in session {}; an installed message is sent",

@@ -86,14 +86,13 @@ impl<R: VoteRule> Story<'_, R> {
         let before = self.service.table.count;
         let came = perform(
             &mut self.service,
-            self.memory.entries.as_mut_slice(),
-            self.memory.messages.as_mut_slice(),
-            self.memory.kept.as_mut_slice(),
+            &mut self.memory.entries,
+            &mut self.memory.messages,
+            &mut self.memory.kept,
             call,
         );
         match (came, m, call) {
-            (Err(fault), _, _) => tell_fault(self.out, "refused", fault, &call),
-            (Ok(Effect::Dropped(fault)), _, _) => tell_fault(self.out, "dropped", fault, &call),
+            (Err(fault) | Ok(Effect::Dropped(fault)), _, _) => tell_fault(self.out, fault, &call),
             (Ok(Effect::Answered(answer)), Some(m), _) => tell_answer(self.out, &m, answer),
             (Ok(_), Some(m), Call::Deliver { .. }) => self.tell_delivered(before, &m),
             (Ok(Effect::Done(n)), _, _) => self.tell_done(&call, n),
@@ -162,9 +161,9 @@ fn tell_service<R: VoteRule>(
         sizes.log,
         sizes.messages,
         sizes.clients,
-        memory.entries.as_slice(),
-        memory.messages.as_slice(),
-        memory.kept.as_slice(),
+        &memory.entries,
+        &memory.messages,
+        &memory.kept,
     );
     writeln!(out, "{}", SizesText(sizes))?;
     match made {
@@ -179,7 +178,7 @@ fn tell_service<R: VoteRule>(
             Ok(true)
         }
         Err(fault) => {
-            tell_fault(out, "refused", fault, &Call::Open)?;
+            tell_fault(out, fault, &Call::Open)?;
             Ok(false)
         }
     }

@@ -17,10 +17,12 @@ fn tell_log(out: &mut String, log: &[Entry<Place>]) -> Result<(), AllocError> {
 }
 
 fn tell_logs(out: &mut String, logs: &Logs, entries: &[Entry<Place>]) -> Result<(), AllocError> {
+    // Logs that do not lie in these entries have none to tell; a service's own always do.
     if !logs.fits(entries.len()) {
         return Ok(());
     }
     let copies = logs.over(entries);
+    // By index: over a `zip` the proof that the copy is below `copies` did not close.
     for copy in 0..logs.copies {
         let Counts { length, known } = logs.counts[copy as usize];
         let length = EntriesText(u32::from(length));
@@ -69,7 +71,7 @@ fn tell_relay(out: &mut String, relay: &Relay) -> Result<(), AllocError> {
     tell_rows(out, &opened.rows)
 }
 
-fn tell_snapshot(out: &mut String, snapshot: &Option<Snapshot>) -> Result<(), AllocError> {
+fn tell_snapshot(out: &mut String, snapshot: Option<&Snapshot>) -> Result<(), AllocError> {
     match snapshot {
         Some(s) => writeln!(
             out,
@@ -116,8 +118,8 @@ impl<R: VoteRule> Story<'_, R> {
     pub fn tell_tables(&mut self) -> Result<(), AllocError> {
         writeln!(self.out)?;
         self.tell_leader()?;
-        tell_logs(self.out, &self.service.logs, self.memory.entries.as_slice())?;
-        tell_snapshot(self.out, &self.service.snapshot)?;
+        tell_logs(self.out, &self.service.logs, &self.memory.entries)?;
+        tell_snapshot(self.out, self.service.snapshot.as_ref())?;
         tell_relay(self.out, &self.service.relay)?;
         self.tell_messages()?;
         self.tell_clients()
