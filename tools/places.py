@@ -1,7 +1,7 @@
 #!/usr/bin/env python3
 """Lists the lines of src/ where an older form may stand, one list for each point of docs/DESIGN-PASS.md.
 
-    python3 tools/places.py             the count of each list, and of its lines with a reason
+    python3 tools/places.py             the count of each list
     python3 tools/places.py 3           the lines of list 3
     python3 tools/places.py --at REV    the same of a commit
 
