@@ -92,6 +92,7 @@ impl<'a, V: RecordKind> Replicas<'_, 'a, V> {
         requires within { n ≤ length_of self.now.logs.now leader }
         ensures { result ≡ holders V.PartialEq.eq (seen self.now) leader n }
     {
+        // A set is a byte, to which each copy adds its bit.
         let mut found = 0u8;
         for r in 0..self.logs.copies {
             if self.holds(leader, n, r) {

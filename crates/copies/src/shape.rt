@@ -67,7 +67,7 @@ impl Logs {
         self.counts_fit()
     }
 
-    // The logs with the slice that they lie in.
+    // The logs with the slice that they lie in, for all that only reads them.
     pub fn over<'l, 'a, V: RecordKind>(&'l self, entries: &'a [Entry<V>]) -> Replicas<'l, 'a, V>
         requires { Shaped self.now (length entries.now) }
         ensures logs { result.logs.now ≡ self.now }
@@ -79,7 +79,7 @@ impl Logs {
         }
     }
 
-    // Where entry i of copy r lies, counted from 0.
+    // Where entry i of copy r lies, counted from 0. It serves the calls that change the logs, as at raft_log's.
     pub fn place(&self, n: usize, r: u8, i: usize) -> usize
         requires shape { Shaped self.now n }
         requires copy { r < self.now.copies }

@@ -11,7 +11,7 @@ use relay::{Message, Outcome, Settlement};
 use state::{Service, ServiceFault};
 use votes::VoteRule;
 
-// Service and slice stand apart and must fit, as at the calls of the log: memory is lent to each step.
+// Service and slice stand apart and must fit, as at the calls of raft_log: memory is lent to each step.
 
 // What a delivered message brings about: a new message, an answer that its client takes, or nothing more.
 #[derive(Drop)]
@@ -81,10 +81,8 @@ pub fn correction<V: RecordKind, R: VoteRule>(
     requires shape { Shaped s.old.logs (length entries.old) }
     ensures { (s.new, entries.new, result) ≡ at_correction V.RecordKind.lawful s.old entries.old m.now sequence }
 {
-    match leader::correction(&mut s.logs, &mut s.lead, entries, m, sequence)? {
-        Some(sent) => Ok(Reaction::Sends(sent)),
-        None => Ok(Reaction::Ends),
-    }
+    let sent = leader::correction(&mut s.logs, &mut s.lead, entries, m, sequence)?;
+    Ok(sent.map_or(Reaction::Ends, Reaction::Sends))
 }
 
 // An installed message at the leader.

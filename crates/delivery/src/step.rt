@@ -22,6 +22,7 @@ pub enum Effect<V> {
 
 // The message does what its kind says, and leaves the table as it is.
 // One arm a kind: each reads fields of its own, so closures would have nothing in common.
+// Service and slice stand apart and must fit, as at the calls of raft_log.
 #[tactic(auto, unfolding(crate::specs::Deliver::react))]
 fn react_to<V: RecordKind, R: VoteRule>(
     s: &mut Service<R>,

@@ -1,5 +1,5 @@
 // A stamp says which correction of which session wrote an entry. It is kept as a pair everywhere.
-// No stamp is the default, zeros.
+// Zeros, the default, stand for no stamp.
 #[derive(Clone, Copy, PartialEq, Eq, Default)]
 pub struct Stamp {
     pub session: u32,

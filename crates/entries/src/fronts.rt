@@ -22,7 +22,7 @@ pub fn holds<V: RecordKind>(led: &[Entry<V>], log: &[Entry<V>], n: u16) -> bool
     n as usize <= log.len() && same_entries(front(log, n), front(led, n))
 }
 
-// The term of the last entry. An empty log has 0, below every term, so that logs compare by it.
+// The term of the last entry. An empty log has 0, below every term: the rules compare terms as numbers.
 pub fn last_term<V: RecordKind>(log: &[Entry<V>]) -> u16
     ensures { result ≡ last_term log.now }
 {

@@ -5,7 +5,7 @@ ghost use Rattle.entries.specs.Search.{zone_of, matches, last_of, last_value, zo
 use crate::entry::{Entry, Sought, Stamp};
 use kinds::RecordKind;
 
-// The zone of a star is its number by 4,096.
+// The zone of a star is its number divided by 4,096.
 pub fn zone_of(star: u16) -> u8
     ensures value { result ≡ zone_of star }
     ensures bound { result < 16 }
@@ -53,7 +53,7 @@ pub fn last_value<V: RecordKind>(log: &[Entry<V>], star: u16) -> Option<V>
     last_of(log, Sought::Star(star)).map(|(_, e)| e.value)
 }
 
-// The stamp of the zone's last entry. No stamp is zeros wherever stamps are compared or written, so it is no Option.
+// The stamp of the zone's last entry, or zeros: stamps are compared and written so, and therefore it is no Option.
 pub fn zone_stamp<V: RecordKind>(log: &[Entry<V>], zone: u8) -> Stamp
     requires { length log.now ≤ 4096 }
     ensures { result ≡ zone_stamp zone log.now }

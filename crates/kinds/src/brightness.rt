@@ -23,7 +23,7 @@ pub struct Brightness {
     pub year: u16,
 }
 
-// Whether the bits are a NaN's. `from_bits` takes other bits alone, so they are asked, and not the float.
+// Whether the bits are a NaN's. `from_bits` requires that they are not, so a float can't be asked.
 fn is_nan_pattern(bits: u32) -> bool
     ensures { result ≡ nan_bits binary32 bits }
 {

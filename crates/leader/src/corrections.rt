@@ -10,7 +10,7 @@ use entries::{Entry, Sought, Stamp};
 use kinds::RecordKind;
 use relay::{Body, Message, Outcome, Settlement};
 
-// Where the logs change, struct and slice stand apart and must fit, as at the calls of the log.
+// Where the logs change, struct and slice stand apart and must fit, as at the calls of raft_log.
 
 // The reply to a correction that is not appended.
 fn tell<V: RecordKind>(m: &Message<V>, sequence: u16, outcome: Outcome, index: u16) -> Message<V>

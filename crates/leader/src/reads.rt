@@ -10,7 +10,7 @@ use entries::Entry;
 use kinds::RecordKind;
 use relay::{Body, Message};
 
-// Where the logs change, struct and slice stand apart and must fit, as at the calls of the log.
+// Where the logs change, struct and slice stand apart and must fit, as at the calls of raft_log.
 
 // The reply to a reading, with what was found.
 fn read_reply<V: RecordKind>(m: &Message<V>, body: Body, value: Option<V>) -> Message<V>

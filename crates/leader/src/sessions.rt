@@ -13,7 +13,7 @@ use std::array;
 pub fn session_of(term: u16, part: u16) -> u32
     ensures { result ≡ session_of term part }
 {
-    term as u32 * 65536 + part as u32
+    u32::from(term) * 65536 + u32::from(part)
 }
 
 // The leader, if the session is its present one.

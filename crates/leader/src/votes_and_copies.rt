@@ -9,7 +9,7 @@ use entries::Entry;
 use kinds::RecordKind;
 use votes::VoteRule;
 
-// Where the logs change, struct and slice stand apart and must fit, as at the calls of the log.
+// Where the logs change, struct and slice stand apart and must fit, as at the calls of raft_log.
 
 // A new leader begins without a session.
 pub fn elect<V: RecordKind, R: VoteRule>(

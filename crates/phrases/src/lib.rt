@@ -1,6 +1,5 @@
 // What the service holds, in words: sessions, stamps, sets, places, entries, rows, clients and messages.
-// Each text is a type of its own: these words for people stand here, and not beside the proofs of the
-// crates below.
+// Each text is a type of its own, so that words for people stand here and not beside the proofs below.
 #![tactic(auto)]
 
 mod messages;

@@ -7,7 +7,7 @@ use copies::{Logs, Replicas};
 use entries::Entry;
 use kinds::RecordKind;
 
-// Struct and slice stand apart and must fit, as at the calls of the log.
+// Struct and slice stand apart and must fit, as at the calls in calls.rt.
 
 // The leader, which is one of the copies.
 pub fn leader_of(logs: &Logs) -> Result<u8, LogFault>
@@ -80,6 +80,7 @@ pub fn copy_step<V: RecordKind>(
     let leader = leader_of(logs)?;
     let copies = logs.over(entries);
     let found = next_entry(copies.log(leader), copies.log(r));
+    // Through `ok_or(..)?` the bound of the place was not proved.
     let Some((at, e)) = found else {
         return Err(LogFault::NothingToCopy);
     };

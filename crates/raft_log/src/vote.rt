@@ -9,7 +9,7 @@ use entries::Entry;
 use kinds::RecordKind;
 use votes::VoteRule;
 
-// Struct and slice stand apart and must fit, as at the calls of the log.
+// Struct and slice stand apart and must fit, as at the calls in calls.rt.
 
 // Makes the candidate leader of the next term, which is the answer.
 pub fn elect_step<V: RecordKind, R: VoteRule>(

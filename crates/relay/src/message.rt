@@ -33,8 +33,8 @@ pub enum Body {
     CorrectionReply {
         sequence: u16,
         outcome: Outcome,
-        // A reply that is not fresh has its index alone.
-        // Beside the outcome: an answer has the outcome without it, so within would need a second enum.
+        // A reply of a known correction has its index alone, one of an unlawful correction nothing.
+        // Not in the outcome: an answer has the outcome with its index alone, and would need a second enum.
         settlement: Settlement,
     },
     ReadAnswer,

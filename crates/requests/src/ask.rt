@@ -10,6 +10,7 @@ use votes::VoteRule;
 // Messages and kept values stand apart from the service, in memory that is lent to each step.
 
 // The number of the client's next request, if there is such a client and star and it may make one.
+// Both callers cut the star to 16 bits: handed back here it would make a pair of every answer.
 fn begin<R: VoteRule>(s: &Service<R>, client: u8, star: u32) -> Result<u16, ServiceFault>
     ensures value { result ≡ begin_of s.now client star }
     ensures bound { OnOk result ((client < 8) × (client < s.now.seats) × (star ≤ 65535)) }

@@ -98,7 +98,7 @@ impl From<ClientFault> for ServiceFault {
     }
 }
 
-// Numbers by `match`: `LeaderFault`, which holds a `LogFault`, can have no discriminants, and here they stand together.
+// These four by `match`: `LeaderFault`, which holds a `LogFault`, can have no discriminants, and here all stand together.
 fn log_number(f: LogFault) -> u8
     ensures { result ≡ log_number f }
 {

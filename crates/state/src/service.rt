@@ -11,8 +11,8 @@ pub struct Table {
     pub count: u16,
 }
 
-// A service over any vote rule. Its entries, messages and kept values lie in memory that is lent to
-// each step. Of the clients the first `seats` take part: an array, since the service has no heap.
+// A service over any vote rule. Its entries, messages and kept values lie in memory that is lent to each step.
+// Of the clients the first `seats` take part: an array, since the service is plain and has no heap.
 #[derive(Clone, Copy)]
 pub struct Service<R> {
     pub rule: R,

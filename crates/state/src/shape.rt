@@ -76,7 +76,7 @@ impl<R> Service<R> {
         ensures means { OnOk result (place < self.now.table.count) }
     {
         // Not `u16::try_from`: where it fails, the proof that such a place is beyond the count did not close.
-        if place < self.table.count as u32 {
+        if place < u32::from(self.table.count) {
             Ok(place as u16)
         } else {
             Err(ServiceFault::NoSuch)

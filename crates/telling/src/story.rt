@@ -49,7 +49,7 @@ fn tell_asked(
     }
 }
 
-// An empty line where narration begins. It answers whether the line is narration.
+// An empty line where narration begins. It answers whether narration goes on: a blank line leaves that as it was.
 fn tell_break(out: &mut String, narrated: bool, line: &Line) -> Result<bool, AllocError> {
     match line {
         Line::Blank => Ok(narrated),

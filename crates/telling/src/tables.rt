@@ -17,7 +17,7 @@ fn tell_log(out: &mut String, log: &[Entry<Place>]) -> Result<(), AllocError> {
 }
 
 fn tell_logs(out: &mut String, logs: &Logs, entries: &[Entry<Place>]) -> Result<(), AllocError> {
-    // Logs that do not lie in these entries have none to tell; a service's own always do.
+    // Logs that don't fit these entries are not told; a service's own always do.
     if !logs.fits(entries.len()) {
         return Ok(());
     }
@@ -32,7 +32,7 @@ fn tell_logs(out: &mut String, logs: &Logs, entries: &[Entry<Place>]) -> Result<
     Ok(())
 }
 
-// Whether the row is as the snapshot had it for every zone without an entry.
+// Whether the row is as the snapshot had it for a zone without an entry.
 fn is_plain(row: &Row) -> bool {
     row.latest == 0 && row.settled.is_some_and(|s| s.stamp.session == 0)
 }

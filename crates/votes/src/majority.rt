@@ -6,7 +6,7 @@ use crate::rule::VoteRule;
 use crate::sets::set_size;
 
 // More than half of the copies are enough to commit, and to elect.
-// Each rule is a type, made alike: what rules share is the trait.
+// Each rule is a type, made alike: what rules share is the trait, which can have no field.
 #[derive(Clone, Copy)]
 pub struct Majority {
     copies: u8,
