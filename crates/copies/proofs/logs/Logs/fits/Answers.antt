@@ -1,11 +1,8 @@
 use Rattle.std.proofs.Common.{sym, ◌∙◌, arith}
-use Rattle.copies.proofs.Fitting.{shape_is, shape_means}
+use Rattle.copies.proofs.Fitting.{shape_means}
 use Rattle.copies.proofs.logs.Logs.fits.Goals as goal
 
-pub returns : goal.returns
-returns c =
-    let l = c.args.self.now in
-    record {
-      value = c.counts_fit.ensures.value ∙ shape_is l c.args.n (omega arith) (omega arith) (omega arith) (omega arith) (omega arith) (sym c.if-not-leader_fits.ensures);
-      means = λ t. shape_means l c.args.n (omega arith) (omega arith) (omega arith) (omega arith) (omega arith) (sym c.if-not-leader_fits.ensures) (c.counts_fit.ensures.places t) (sym c.counts_fit.ensures.value ∙ t);
-    }
+pub returns-clause-means : goal.returns-clause-means
+returns-clause-means c = λ t.
+    shape_means c.args.self.now c.args.n (omega arith) (omega arith) (omega arith) (omega arith) (omega arith) (sym c.if-not-leader_fits.ensures) (c.counts_fit.ensures.places t)
+    (sym c.counts_fit.ensures.value ∙ t)
