@@ -1,8 +1,10 @@
 -- Tests and sets over the first numbers, one number more.
-use Rattle.std.proofs.Common.{◌≡◌, ℕ, zero, suc, ◌+◌, ◌*◌, ◌^◌, ◌<◌, Bool, true, false, cond, ◌⊎◌, sym, ap, ◌∙◌, inl, inr, add-zero, pow-suc, zero-add, add-one, arith}
+use Rattle.std.proofs.Common.{◌≡◌, ℕ, zero, suc, ◌+◌, ◌*◌, ◌^◌, ◌<◌, ◌≤◌, Bool, true, false, cond, ltb, ◌⊎◌, sym, ap, ◌∙◌, inl, inr, add-zero, pow-suc, zero-add, add-one, arith}
+use Rattle.std.proofs.lemmas.Bool.Decides.{nat_tests}
 use Rattle.std.proofs.lemmas.Bool.{and_parts}
 use Rattle.std.proofs.lemmas.Nat.{pow_pos}
 use Rattle.copies.specs.Below.{all_below, mask_from, mask}
+use Rattle.copies.specs.Questions.{greatest}
 
 split : (k n : ℕ) → k < suc n → (k < n) ⊎ (k ≡ n)
 split k n h = grind arith
@@ -44,3 +46,11 @@ module _ (p : ℕ → Bool) (i found : ℕ) (e : found ≡ mask p i) (b : found 
 
   pub mask_no : false ≡ p i → (found ≡ mask p (i + 1)) × (found < 2 ^ (i + 1))
   mask_no t = (e ∙ (let m = mask_more p i in let k = rw (← t) at m in sym (k ∙ add-zero (mask p i))), omega (arith, twice i, pow_pos i))
+
+-- one copy more of the search for the greatest count
+module _ (known : ℕ → ℕ) (r best : ℕ) (e : best ≡ greatest known r) where
+  pub greatest_yes : known best < known r → r ≡ greatest known (r + 1)
+  greatest_yes h = let t : ltb (known (greatest known r)) (known r) ≡ true = rw (← e) (grind (arith, nat_tests)) in rw (add-one, t)
+
+  pub greatest_no : known r ≤ known best → best ≡ greatest known (r + 1)
+  greatest_no h = let t : ltb (known (greatest known r)) (known r) ≡ false = rw (← e) (grind (arith, nat_tests)) in rw (add-one, t) e

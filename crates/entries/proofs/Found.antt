@@ -1,5 +1,5 @@
 -- The last entry that is sought, by its place.
-use Rattle.std.proofs.Common.{◌≡◌, ℕ, zero, suc, ◌+◌, ◌<◌, Bool, true, false, cond, List, [], ◌∷◌, length, get_or, IfSome, IsSomeAnd, Some, None, Option, refl, sym, add-zero, zero-add, add-one, arith}
+use Rattle.std.proofs.Common.{◌≡◌, ℕ, zero, suc, ◌+◌, ◌<◌, ◌≤◌, Bool, true, false, cond, List, [], ◌∷◌, length, get_or, IfSome, IsSomeAnd, Some, None, Option, refl, sym, add-zero, zero-add, add-one, arith}
 use Rattle.std.specs.Option.{option_map}
 use Rattle.entries.specs.declared.entry.Entry.{Entry}
 use Rattle.entries.specs.declared.entry.Sought.{Sought}
@@ -35,6 +35,29 @@ module _ {V : Type 0} where
 
   pub last_none : (q : Sought) (l : List (Entry V)) → NoneIn q l → None ≡ last_of q l
   last_none q l h = sym (none_from q 0 None l h)
+
+  -- an index between 1 and n, or none
+  abbrev Within : ℕ → Option (ℕ × Entry V) → Type 0
+  Within n r = IfSome r (λ p. (1 ≤ p.0) × (p.0 ≤ n))
+
+  widen : (m n : ℕ) (r : Option (ℕ × Entry V)) → m ≤ n → Within m r → Within n r
+  widen m n None h w = tt
+  widen m n (Some p) h w = (w.0, omega arith)
+
+  chosen : (n : ℕ) (t : Bool) (e : Entry V) (r : Option (ℕ × Entry V)) → Within n r → Within (suc n) (cond t (Some (suc n, e)) r)
+  chosen n true e r w = (omega arith, omega arith)
+  chosen n false e r w = widen n (suc n) r (omega arith) w
+
+  from_bound : (q : Sought) (n : ℕ) (r : Option (ℕ × Entry V)) (l : List (Entry V)) → Within n r → Within (n + length l) (last_from q n r l)
+  from_bound q n r [] w = rw add-zero w
+  from_bound q n r (e ∷ l) w =
+      let k = from_bound q (suc n) (cond (matches q e) (Some (suc n, e)) r) l (chosen n (matches q e) e r w) in
+      let m : suc n + length l ≡ n + suc (length l) = omega arith in
+      rw m at k
+
+  -- what is found lies in the log
+  pub last_bound : (q : Sought) (l : List (Entry V)) (r : Option (ℕ × Entry V)) → r ≡ last_of q l → IfSome r (λ p. (1 ≤ p.0) × (p.0 ≤ length l))
+  last_bound q l r e = rw e (let k = from_bound q 0 None l tt in rw zero-add at k)
 
 -- what is known of an item that a run gave
 pub given : {A B : Type 0} (o : Option A) (v : A → B) (y : B) (P : A → Type 0) (test : B → Bool) (b : Bool) → option_map v o ≡ Some y → IfSome o P → ((x : A) → P x → test (v x) ≡ b) → test y ≡ b

@@ -1,5 +1,5 @@
 -- The tests that say whether two magnitudes, and two brightnesses, are one.
-use Rattle.std.specs.Prelude.{◌≡◌, ℕ, Bool, true, T, ℤ, Decides, ◌==◌, refl, Float}
+use Rattle.std.specs.Prelude.{◌≡◌, ℕ, Bool, true, false, T, ℤ, Decides, ◌==◌, refl, Float}
 use Rattle.std.proofs.Common.{sym, ap, ◌∙◌}
 use Rattle.std.specs.Cmp.{booleans_Decides}
 use Rattle.std.specs.Float.Ieee as Ieee
@@ -51,3 +51,14 @@ nan_first nan (inf t) h = refl
 nan_first nan (fin t n d) h = refl
 nan_first (inf s) y h = cc
 nan_first (fin s m e) y h = cc
+
+-- what is no NaN is not the same as a NaN
+pub nan_second : (x y : Float) → false ≡ Ieee.is_nan x → true ≡ Ieee.is_nan y → false ≡ same_magnitude x y
+unfolding Ieee.is_nan
+nan_second nan y h k = cc
+nan_second (inf s) nan h k = refl
+nan_second (inf s) (inf t) h k = cc
+nan_second (inf s) (fin t n d) h k = cc
+nan_second (fin s m e) nan h k = refl
+nan_second (fin s m e) (inf t) h k = cc
+nan_second (fin s m e) (fin t n d) h k = cc

@@ -29,11 +29,14 @@ pub put_other : {A : Type 0} (f : ℕ → A) (r : ℕ) (x : A) (q : ℕ) → (q 
 put_other f r x q n = let t : eqb q r ≡ false = grind (arith, nat_tests) in rw t
 
 -- one item of a list set is one value of its function put
-counts_put : (xs : List Counts) (r : ℕ) (c : Counts) → r < length xs → (λ q. get_or (set xs r c) q no_counts) ≡ put (λ q. get_or xs q no_counts) r c
-counts_put xs r c h = fun_ext (λ q. elim (cases_order q r) [
-  | inl k ↦ rw (k, put_same (λ q. get_or xs q no_counts) r c) (get_or-set_same xs r c no_counts h)
-  | inr k ↦ let ne : q ≡ r → ⊥ = elim k [ inl j ↦ omega arith | inr j ↦ omega arith ] in rw (put_other (λ q. get_or xs q no_counts) r c q ne) (get_or-set_other xs r q c no_counts ne)
+pub list_put : {A : Type 0} (d : A) (xs : List A) (r : ℕ) (x : A) → r < length xs → (λ q. get_or (set xs r x) q d) ≡ put (λ q. get_or xs q d) r x
+list_put d xs r x h = fun_ext (λ q. elim (cases_order q r) [
+  | inl k ↦ rw (k, put_same (λ q. get_or xs q d) r x) (get_or-set_same xs r x d h)
+  | inr k ↦ let ne : q ≡ r → ⊥ = elim k [ inl j ↦ omega arith | inr j ↦ omega arith ] in rw (put_other (λ q. get_or xs q d) r x q ne) (get_or-set_other xs r q x d ne)
 ])
+
+pub get_or-put : (xs : List ℕ) (r n : ℕ) → r < length xs → (λ q. get_or (set xs r n) q 0) ≡ put (λ q. get_or xs q 0) r n
+get_or-put = list_put 0
 
 -- a function of what is put is put
 put_of : {A B : Type 0} (h : A → B) (f : ℕ → A) (r : ℕ) (x : A) → (λ q. h (put f r x q)) ≡ put (λ q. h (f q)) r (h x)
@@ -49,15 +52,15 @@ put_own f r = fun_ext (λ q. elim (cases_order q r) [
 module _ (l : Logs) (r : ℕ) (h : r < length l.counts) where
   length_kept : (n : ℕ) → length_of (with_known l r n) ≡ length_of l
   length_kept n = let c : Counts = record { length = length_of l r; known = n } in
-      ap {B = ℕ → ℕ} (λ (f : ℕ → Counts) (q : ℕ). (f q).length) (counts_put l.counts r c h) ∙ put_of (λ (x : Counts). x.length) (λ q. get_or l.counts q no_counts) r c ∙ put_own (length_of l) r
+      ap {B = ℕ → ℕ} (λ (f : ℕ → Counts) (q : ℕ). (f q).length) (list_put no_counts l.counts r c h) ∙ put_of (λ (x : Counts). x.length) (λ q. get_or l.counts q no_counts) r c ∙ put_own (length_of l) r
 
   known_kept : (n : ℕ) → known_of (with_length l r n) ≡ known_of l
   known_kept n = let c : Counts = record { length = n; known = known_of l r } in
-      ap {B = ℕ → ℕ} (λ (f : ℕ → Counts) (q : ℕ). (f q).known) (counts_put l.counts r c h) ∙ put_of (λ (x : Counts). x.known) (λ q. get_or l.counts q no_counts) r c ∙ put_own (known_of l) r
+      ap {B = ℕ → ℕ} (λ (f : ℕ → Counts) (q : ℕ). (f q).known) (list_put no_counts l.counts r c h) ∙ put_of (λ (x : Counts). x.known) (λ q. get_or l.counts q no_counts) r c ∙ put_own (known_of l) r
 
   known_put : (n : ℕ) → known_of (with_known l r n) ≡ put (known_of l) r n
   known_put n = let c : Counts = record { length = length_of l r; known = n } in
-      ap {B = ℕ → ℕ} (λ (f : ℕ → Counts) (q : ℕ). (f q).known) (counts_put l.counts r c h) ∙ put_of (λ (x : Counts). x.known) (λ q. get_or l.counts q no_counts) r c
+      ap {B = ℕ → ℕ} (λ (f : ℕ → Counts) (q : ℕ). (f q).known) (list_put no_counts l.counts r c h) ∙ put_of (λ (x : Counts). x.known) (λ q. get_or l.counts q no_counts) r c
 
 -- what an outcome shows
 abbrev pub seen : {V X : Type 0} → Logs × List (Entry V) × X → View V × X

@@ -1,10 +1,19 @@
 -- Sets of copies: their sizes, when two of them share a copy, and the laws of the two rules.
 use Rattle.std.specs.Prelude.{◌≡◌, ℕ, zero, suc, ◌+◌, ◌<◌, ◌≤◌, ◌⊎◌, T, refl}
-use Rattle.std.proofs.Common.{inl, inr, arith, ltb→lt, eqb→eq, lt→ltb}
+use Rattle.std.proofs.Common.{inl, inr, arith, add-one, ltb→lt, eqb→eq, lt→ltb}
 use Rattle.std.proofs.Math.Dec.{eqb_refl}
 use Rattle.std.proofs.lemmas.Nat.Bits.{bit_at-lt, bit_at_ones}
 use Rattle.votes.specs.Sets.{bit, size, everyone, Shared, SameCopies, Admitted}
 use Rattle.votes.specs.Rules.{majority, every_copy, any_copy}
+
+-- one copy more
+pub size_more : (a k n x : ℕ) → n ≡ size k a → x ≡ bit a k → n + x ≡ size (k + 1) a
+size_more a k n x e f = rw (add-one, e, f)
+
+-- a set has no more of n copies than n
+size_le : (n a : ℕ) → size n a ≤ n
+size_le zero a = omega arith
+size_le (suc n) a = omega (arith, size_le n a, bit_at-lt a n)
 
 more : (n a b : ℕ) → Shared n a b → Shared (suc n) a b
 more n a b (k, h, p, q) = (k, omega arith, p, q)
@@ -24,7 +33,7 @@ either (suc n) a b =
     next n a b (suc x) (suc y) ex ey hx hy h = inl (n, omega arith, omega arith, omega arith)
 
 -- sets with more than n copies together share one
-share : (n a b : ℕ) → n < size n a + size n b → Shared n a b
+pub share : (n a b : ℕ) → n < size n a + size n b → Shared n a b
 share n a b h = elim (either n a b) [ inl s ↦ s | inr k ↦ absurd (omega arith) ]
 
 -- the set of all of m copies has the first n of them
@@ -33,11 +42,11 @@ full_front zero m h = refl
 full_front (suc n) m h = omega (arith, full_front n m (omega arith), bit_at_ones m n (omega arith))
 
 -- the set of all copies has them all
-full : (n : ℕ) → size n (everyone n) ≡ n
+pub full : (n : ℕ) → size n (everyone n) ≡ n
 full n = full_front n n (omega arith)
 
 -- sets with the same copies have the same size
-same_size : (n a b : ℕ) → SameCopies n a b → size n a ≡ size n b
+pub same_size : (n a b : ℕ) → SameCopies n a b → size n a ≡ size n b
 same_size zero a b h = refl
 same_size (suc n) a b h = let e = same_size n a b (λ k l. h k (omega arith)) in let f = h n (omega arith) in rw (e, f)
 
