@@ -45,7 +45,7 @@ pub fn rehearse<V: RecordKind, R: VoteRule>(
     kept: &mut [V],
     input: &[u8],
 ) -> Result<Vec<u8>, AllocError> {
-    let mut out = Vec::new(heap);
+    let mut out = Vec::with_capacity(heap, input.len().div_ceil(24) * 24)?;
     for record in input.chunks(24) {
         out.extend_from_slice(&answer(s, entries, messages, kept, record))?;
     }
