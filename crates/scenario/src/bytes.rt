@@ -1,20 +1,19 @@
-ghost use Rattle.std.specs.Prelude.{◌≡◌, ◌+◌, ◌<◌, ◌^◌, ◌++◌, length, MatchOption};
+ghost use Rattle.std.specs.Prelude.{◌≡◌, ◌<◌, ◌++◌, length, MatchOption};
 ghost use Rattle.std.specs.Iterator.{at_most};
 
-// The lines of a text that are not yet read, and how many were. Each comes with its number, from 1
-// on, and its newline if it has one.
+// The lines of a text that are not yet read, and the number of the last one that was. Each comes with
+// its number, from 1 on, and its newline if it has one.
 #[derive(Clone, Copy)]
 pub struct Lines<'a> {
-    rest: &'a [u8],
-    read: u64,
-    ghost countable: { read + length rest.now < 2 ^ 64 },
+    pub rest: &'a [u8],
+    pub number: u64,
 }
 
 impl<'a> Lines<'a> {
     pub fn new(text: &'a [u8]) -> Lines<'a> {
         Lines {
             rest: text,
-            read: 0,
+            number: 0,
         }
     }
 }
@@ -29,8 +28,8 @@ impl<'a> Iterator for Lines<'a> {
     fn next(&mut self) -> Option<(u64, &'a [u8])> {
         let line = self.rest.split_inclusive(|b| *b == b'\n').next()?;
         self.rest = &self.rest[line.len()..];
-        self.read += 1;
-        Some((self.read, line))
+        self.number = self.number.wrapping_add(1);
+        Some((self.number, line))
     }
 }
 

@@ -17,13 +17,10 @@ pub enum Line<'a> {
     Unreadable(&'a [u8], Option<Name>),
 }
 
-// A line without its comment, or, where it is unreadable, its first word if that is known.
+// A line without its comment, which is not blank, or, where it is unreadable, its first word if that is known.
 fn read_words<'a>(text: &[u8]) -> Result<Line<'a>, Option<Name>> {
     let mut words = Words::new(text);
-    let Some(word) = words.next() else {
-        return Ok(Line::Blank);
-    };
-    let name = Name::read(word).ok_or(None)?;
+    let name = words.next().and_then(Name::read).ok_or(None)?;
     match name {
         Name::Service => Ok(Line::Choice(Sizes::read(&mut words).ok_or(Some(name))?)),
         _ => Ok(Line::Step(read_step(name, &mut words).ok_or(Some(name))?)),
@@ -33,9 +30,12 @@ fn read_words<'a>(text: &[u8]) -> Result<Line<'a>, Option<Name>> {
 // Reads one line of any bytes.
 pub fn read_line<'a>(line: &'a [u8]) -> Line<'a> {
     let text = line.trim_ascii();
-    if text.first() == Some(&b'#') {
-        return Line::Narration(text);
+    match text.first() {
+        None => Line::Blank,
+        Some(b'#') => Line::Narration(text),
+        Some(_) => {
+            let text = before_comment(text).trim_ascii();
+            read_words(text).unwrap_or_else(|name| Line::Unreadable(text, name))
+        }
     }
-    let text = before_comment(text).trim_ascii();
-    read_words(text).unwrap_or_else(|name| Line::Unreadable(text, name))
 }

@@ -8,8 +8,8 @@ fn with_digit(n: u32, byte: u8, most: u32) -> Option<u32>
     if !byte.is_ascii_digit() {
         return None;
     }
-    let more = n.checked_mul(10)?.checked_add(u32::from(byte - b'0'))?;
-    (more <= most).then_some(more)
+    let more = u64::from(n) * 10 + u64::from(byte - b'0');
+    u32::try_from(more).ok().filter(|more| *more <= most)
 }
 
 // The number that the bytes write in decimal digits, if it is at most `most`.

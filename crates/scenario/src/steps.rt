@@ -81,7 +81,11 @@ fn with_copy(set: u8, copy: u32) -> u8
 
 // The set of the copies, 0 to 7, that the rest of the line names.
 fn voters(words: &mut Words) -> Option<u8> {
-    words.try_fold(0, |set, word| Some(with_copy(set, decimal(word, 7)?)))
+    let mut set = 0;
+    for word in words {
+        set = with_copy(set, decimal(word, 7)?);
+    }
+    Some(set)
 }
 
 fn elect(words: &mut Words) -> Option<Call<Place>> {

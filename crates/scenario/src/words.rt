@@ -18,11 +18,12 @@ impl<'a> Iterator for Words<'a> {
 
     fn next(&mut self) -> Option<&'a [u8]> {
         let text = self.rest.trim_ascii_start();
-        let word = text.split(u8::is_ascii_whitespace).next()?;
-        if word.is_empty() {
+        if text.is_empty() {
             return None;
         }
-        self.rest = &text[word.len()..];
+        let blank = text.iter().position(|b| b.is_ascii_whitespace());
+        let (word, rest) = text.split_at(blank.unwrap_or(text.len()));
+        self.rest = rest;
         Some(word)
     }
 }
@@ -42,13 +43,21 @@ impl<'a> Words<'a> {
         self.next().is_none()
     }
 
-    // The next word as a number of at most 32 bits that fits the type.
+    // The next word as a number of 32 bits. It stands alone, since with a copy of it in each caller the lines are read more slowly.
+    #[inline(never)]
+    pub fn number(&mut self) -> Option<u32>
+        ensures left { length self.new.rest.now ≤ length self.old.rest.now }
+    {
+        decimal(self.next()?, u32::MAX)
+    }
+
+    // The same of a number that fits the type.
     pub fn unsigned<T: TryFrom<u32>>(&mut self) -> Option<T>
     where
         <T as TryFrom<u32>>::Error: Drop,
         ensures left { length self.new.rest.now ≤ length self.old.rest.now }
     {
-        T::try_from(decimal(self.next()?, u32::MAX)?).ok()
+        T::try_from(self.number()?).ok()
     }
 
     // The same with a sign.
