@@ -32,13 +32,14 @@ fn tell_input(rt: &HostRuntime) -> anyhow::Result<()> {
 }
 
 fn tell_files(rt: &HostRuntime, names: Args) -> anyhow::Result<()> {
-    let mut names = names.skip(1);
-    let Some(first) = names.next() else {
+    let mut names = names.skip(1).enumerate().peekable();
+    if names.peek().is_none() {
         return tell_input(rt);
-    };
-    tell_file(rt, &first)?;
-    for name in names {
-        println!(rt)?;
+    }
+    for (place, name) in names {
+        if place > 0 {
+            println!(rt)?;
+        }
         tell_file(rt, &name)?;
     }
     Ok(())
