@@ -6,12 +6,18 @@ use std::io::Read;
 use std::{env, fs};
 use telling::tell;
 
+// It stands alone, so that what it needs of the stack is not taken while a text is told.
+#[inline(never)]
+fn print(rt: &HostRuntime, text: &str) -> anyhow::Result<()> {
+    rt.print(text)?;
+    Ok(())
+}
+
 fn tell_text(rt: &HostRuntime, text: &[u8]) -> anyhow::Result<()> {
     let heap = rt.alloc();
     let mut out = String::new(heap);
     tell(&mut out, heap, text)?;
-    rt.print(&out)?;
-    Ok(())
+    print(rt, &out)
 }
 
 fn tell_file(rt: &HostRuntime, name: &str) -> anyhow::Result<()> {

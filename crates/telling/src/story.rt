@@ -147,7 +147,9 @@ fn tell_prelude<'a>(
     Ok((Sizes::standard(), lines))
 }
 
-// Makes a service and tells the lines and the tables. It is false where the sizes are refused.
+// Makes a service and tells the lines and the tables. It is false where the sizes are refused. It stands
+// alone, since a copy of it in `tell` would take its stack while the other one runs.
+#[inline(never)]
 fn tell_service<R: VoteRule>(
     out: &mut String,
     heap: Global,
