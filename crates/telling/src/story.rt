@@ -156,7 +156,7 @@ fn tell_service<R: VoteRule>(
     rule: R,
     sizes: Sizes,
     lines: Lines,
-) -> anyhow::Result<bool> {
+) -> Result<bool, AllocError> {
     let memory = Memory::new(heap, &sizes)?;
     let made = state::new_service(
         rule,
